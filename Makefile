@@ -1,0 +1,5 @@
+.PHONY: test
+
+# Proves every crate, tries every must-fail edit, runs every program.
+test:
+	rt ci
