@@ -1,0 +1,23 @@
+-- Document 01, as definitions, in its order.
+pub mod Kinds
+pub mod Sizes
+pub mod Levels
+pub mod Cuts
+pub mod View
+pub mod Floats
+pub mod NearestValue
+pub mod Root
+pub mod Curve
+pub mod Reducing
+pub mod Pictures
+pub mod Cross
+pub mod Lanes
+pub mod Wrapping
+pub mod Whole
+pub mod Footprint
+pub mod Places
+pub mod Bilinear
+pub mod Faces
+pub mod Cubemap
+pub mod Refusals
+pub mod Answers
