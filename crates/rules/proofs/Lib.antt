@@ -1,0 +1,4 @@
+pub mod Grid
+pub mod Sides
+pub mod Chain
+pub mod Cut
