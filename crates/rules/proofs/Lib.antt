@@ -3,3 +3,4 @@ pub mod Sides
 pub mod Chain
 pub mod Cut
 pub mod Refusing
+pub mod RefusingCuts

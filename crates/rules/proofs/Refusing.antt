@@ -105,10 +105,10 @@ side-test s p q = and-true (leb 1 s) (leb s 4096) (le-leb 1 s p) (le-leb s 4096 
 side-fact : (s : ℕ) → sideTaken s ≡ true → (0 < s) × (s ≤ 4096)
 side-fact s e = let b = and-both (leb 1 s) (leb s 4096) e in (leb-true 1 s (b .0), leb-true s 4096 (b .1))
 
-sides-test : (w h : ℕ) → Sides w h → (sideTaken w && sideTaken h) ≡ true
+pub sides-test : (w h : ℕ) → Sides w h → (sideTaken w && sideTaken h) ≡ true
 sides-test w h s = and-true (sideTaken w) (sideTaken h) (side-test w (s .some-w) (s .most-w)) (side-test h (s .some-h) (s .most-h))
 
-sides-fact : (w h : ℕ) → (sideTaken w && sideTaken h) ≡ true → Sides w h
+pub sides-fact : (w h : ℕ) → (sideTaken w && sideTaken h) ≡ true → Sides w h
 sides-fact w h e =
     let b = and-both (sideTaken w) (sideTaken h) e in
     let p = side-fact w (b .0) in
