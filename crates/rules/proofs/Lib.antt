@@ -4,3 +4,4 @@ pub mod Chain
 pub mod Cut
 pub mod Refusing
 pub mod RefusingCuts
+pub mod RefusingLookups

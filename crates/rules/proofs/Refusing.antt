@@ -1,13 +1,12 @@
 -- What a refusal number says: 0 exactly when the facts that the call needs hold, and else the first number that is given.
 -- For a part X of the arguments: `X-taken`, its number is 0 where the facts hold; `X-facts`, they hold where it is 0;
 -- `X-refused`, its number where they do not. Assumes nothing.
-use mathlib.Core.Path.{_≡_, refl, sym, ap, _∙_}
-use mathlib.Core.Bool.{Bool, true, false, not, cond, _&&_, false≢true}
-use Prim.Native.Nat.{ℕ, zero, suc, _+_, _*_, _≤_, _<_, suc-le-suc}
+use mathlib.Core.Path.{_≡_, refl, sym, _∙_}
+use mathlib.Core.Bool.{Bool, true, false, not, _&&_, false≢true}
+use Prim.Native.Nat.{ℕ, zero, suc, _≤_, _<_, suc-le-suc}
 use native.Mathlib.Omega.{arith}
-use native.Mathlib.Decide.{decLe}
-use borrow.Author.Tests.{leb-true, ltb-true, eqb-true, eqb-false, not-true, le-leb, lt-leb, lt-ltb, le-ltb, eq-eqb, ne-eqb}
-use lib.Dec.{leb, ltb, eqb}
+use borrow.Author.Tests.{leb-true, eqb-true, eqb-false, not-true, le-leb, lt-leb, eq-eqb, ne-eqb}
+use lib.Dec.{leb, eqb}
 use Rattle.rules.specs.Kinds.{cubemap, facesOf}
 use Rattle.rules.specs.Sizes.{top, count}
 use Rattle.rules.specs.Refusals.{_orElse_, unless, kindRefusal, sideTaken, sidesRefusal, bufferRefusal, levelRefusal, noCubemapRefusal, onlyCubemapRefusal, faceRefusal, pictureRefusal, chainRefusal, levelSizesRefusal, viewRefusal}

@@ -1,17 +1,16 @@
 -- What the refusal numbers of the cut and of the cross say: 0 exactly when the facts hold, and else the first number that is
 -- given. The test of an aligned cut is taken apart here once. Assumes nothing.
 use mathlib.Core.Path.{_≡_, _∙_}
-use mathlib.Core.Bool.{true, _&&_}
-use Prim.Native.Nat.{ℕ, suc, _+_, _*_, _%_, _^_, _≤_, _<_}
+use mathlib.Core.Bool.{true}
+use Prim.Native.Nat.{ℕ, _+_, _*_, _%_, _^_, _≤_, _<_}
 use native.Mathlib.Omega.{arith}
 use borrow.Author.Tests.{leb-true, ltb-true, eqb-true, le-leb, lt-ltb, eq-eqb}
-use lib.Dec.{leb, ltb}
 use Rattle.rules.specs.declared.Pair.{Pair}
 use Rattle.rules.specs.Kinds.{cubemap, facesOf}
 use Rattle.rules.specs.Cuts.{aligned, cutTaken, CutAt}
 use Rattle.rules.specs.Cross.{crossWidth, crossHeight}
-use Rattle.rules.specs.Refusals.{_orElse_, sideTaken, bufferRefusal, noCubemapRefusal, crossSidesRefusal, cutRefusal, pictureRefusal, cutCallRefusal, crossRefusal}
-use Rattle.rules.proofs.Refusing.{orElse-zero, orElse-given, orElse-none, orElse-taken, unless-true, unless-false, unless-none, and-true, and-both, test-false, Sides, sides-test, sides-fact, buffer-taken, buffer-facts, buffer-refused, flat-taken, flat-facts, flat-refused, Taken, picture-taken, picture-facts}
+use Rattle.rules.specs.Refusals.{_orElse_, bufferRefusal, noCubemapRefusal, crossSidesRefusal, cutRefusal, pictureRefusal, cutCallRefusal, crossRefusal}
+use Rattle.rules.proofs.Refusing.{orElse-zero, orElse-given, orElse-none, orElse-taken, unless-true, unless-false, unless-none, and-both, test-false, Sides, sides-test, sides-fact, buffer-taken, buffer-facts, buffer-refused, flat-taken, flat-facts, flat-refused, Taken, picture-taken, picture-facts}
 
 -- ---- 11: cut order k above 12, a side 0, corner or side not a multiple of 2^k, or not wholly inside
 

@@ -1,8 +1,7 @@
 -- The size laws. Assumes nothing.
-use mathlib.Core.Path.{_≡_, refl, sym, ap, ap₂, _∙_, subst}
-use mathlib.Core.Bool.{Bool, true, false}
+use mathlib.Core.Path.{_≡_, refl, sym, ap, _∙_}
 use Prim.Native.Nat.{ℕ, zero, suc, _+_, _-_, _*_, _/_, _^_, _≤_, _<_, max}
-use native.Mathlib.Nat.{add-zero, add-suc, suc-add, pow-zero, div-one, zero-div, div-le-self, max-eq-left, max-eq-right, div-div-eq-div-mul, mul-comm, le-refl}
+use native.Mathlib.Nat.{add-zero, add-suc, suc-add, pow-zero, div-one, zero-div, div-le-self, max-eq-left, max-eq-right, le-refl}
 use native.Mathlib.Omega.{arith}
 use native.Mathlib.Nat.{not-le-of-lt, le-div-iff-mul-le, div-lt-iff-lt-mul, sub-add-cancel}
 use native.Mathlib.Numerals.{one-add}
