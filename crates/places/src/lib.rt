@@ -1,0 +1,2 @@
+// Where a lookup reads: the numbers of one lane, with no texel read.
+pub mod wrap;
