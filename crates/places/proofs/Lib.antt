@@ -1,2 +1,4 @@
 pub mod Rests
 pub mod Lifts
+pub mod Fours
+pub mod Finites

@@ -1,4 +1,6 @@
 // A wrap code to a mode, and a texel number wrapped into a side.
+use crate::order::larger;
+use crate::order::smaller;
 use rules::Mode;
 use rules::Wrap;
 ghost use mathlib.Core.Path.{_≡_};
@@ -17,20 +19,6 @@ pub fn wrap_code(code: u32) -> Wrap
         0 => Wrap::By(Mode::Clamp),
         _ => Wrap::Refused(4),
     }
-}
-
-// The smaller of two numbers.
-fn smaller(a: u32, b: u32) -> u32
-    ensures { λ r. ⌜ r ≡ min a b ⌝ }
-{
-    if a < b { a } else { b }
-}
-
-// The larger of two numbers.
-fn larger(a: u32, b: u32) -> u32
-    ensures { λ r. ⌜ r ≡ max a b ⌝ }
-{
-    if a < b { b } else { a }
 }
 
 // t lifted by 2050 sides, which is an even number of them: a coordinate's texel number is then not negative.
