@@ -1,15 +1,14 @@
 -- x * 0 is 0 exactly where x is finite: a NaN or an infinity times 0 is a NaN, and a finite x times 0 rounds to a zero, whose sign
--- no comparison sees. A side up to 4,096 is a float as it is. Assumes nothing.
+-- no comparison sees. Assumes nothing.
 use mathlib.Core.Path.{_≡_, refl, sym, _∙_, subst}
 use mathlib.Core.Logic.{inl, inr}
 use mathlib.Core.Bool.{Bool, true, false, _&&_, _||_, Bool·beq}
-use Prim.Native.Nat.{ℕ, _+_, _*_, _^_, _≤_, _<_}
+use Prim.Native.Nat.{ℕ, _+_, _*_, _^_, _<_}
 use native.Mathlib.Nat.{eq-zero-or-pos, lt-irrefl, mul-pos, zero-mul, mul-zero, mul-one, zero-lt-suc}
-use native.Mathlib.Omega.{arith}
 use lib.IntN.{pos}
-use lib.Dec.{T, eqb, le→leb}
+use lib.Dec.{T, eqb}
 use lib.Pow.{pow-pos}
-use lib.Ieee.{Float, nan, inf, fin, binary32, up, down, unlike, round, mul, eq, ofBits, inFloat}
+use lib.Ieee.{Float, nan, inf, fin, binary32, up, down, unlike, round, mul, eq, ofBits}
 use lib.Ieee.Bits.{is-true}
 use lib.Ieee.Fits.{down-pos, and-i, eq→eqb}
 use lib.Ieee.Exact.{HasValue, round-exact}
@@ -49,7 +48,3 @@ finite-test (fin s m e) =
     let C = mul-pos (down-pos e) (zero-lt-suc 0) in
     subst (λ (a : ℕ). eq (round binary32 t a (down e * 1)) (fin false 0 (pos 0)) ≡ true) (sym (mul-zero (m * up e)))
     (zero-eq (round binary32 t 0 (down e * 1)) t (down e * 1) C (zero-value t (down e * 1) C))
-
-pub side-float : (w : ℕ) → w ≤ 4096 → T (inFloat binary32 (pos w))
-unfolding inFloat
-side-float w h = le→leb w (2 ^ 24) (omega arith)

@@ -21,13 +21,7 @@ use Rattle.rules.specs.Floats.{float, four32}
 use Rattle.rules.specs.Footprint.{fourOf}
 use Rattle.rules.specs.Sizes.{log2, top}
 use Rattle.rules.proofs.Sides.{log2-bounds, exp-le}
-
--- two tests that say the same are equal
-pub same-test : (a b : Bool) → (T a → T b) → (T b → T a) → a ≡ b
-same-test true true f g = refl
-same-test false false f g = refl
-same-test true false f g = absurd (f tt)
-same-test false true f g = absurd (g tt)
+use Rattle.places.proofs.Magnitudes.{same-test}
 
 or-split : (a b : Bool) → T (a || b) → T a ⊎ T b
 or-split true b t = inl tt

@@ -1,5 +1,5 @@
 // The footprint of four steps, and the level that it asks for.
-use crate::order::smaller;
+use crate::choice::smaller;
 use rules::Lanes;
 ghost use mathlib.Core.Path.{_≡_};
 ghost use Prim.Native.Nat.{_≤_, _<_};

@@ -1,6 +1,6 @@
 // A wrap code to a mode, and a texel number wrapped into a side.
-use crate::order::larger;
-use crate::order::smaller;
+use crate::choice::larger;
+use crate::choice::smaller;
 use rules::Mode;
 use rules::Wrap;
 ghost use mathlib.Core.Path.{_≡_};

@@ -2,7 +2,7 @@
 use mathlib.Core.Path.{refl}
 use native.Mathlib.Omega.{arith}
 use Rattle.rules.specs.Footprint.{footprintOf}
-use Rattle.places.proofs.Finites.{side-float}
+use Rattle.texel.proofs.Coord.{side-float}
 use Rattle.places.proofs.level.footprint.Statement.{statement}
 use Rattle.places.proofs.level.footprint.Tie as tie
 
