@@ -426,7 +426,7 @@ not-zero m h = go (eqb m 0) (eqb→eq m 0)
         clash k p h = omega arith
     go false e = tt
 
-positive-num : (y : Float) → T (positive y) → 0 < num y
+pub positive-num : (y : Float) → T (positive y) → 0 < num y
 positive-num nan p = absurd p
 positive-num (inf s) p = absurd p
 positive-num (fin true m e) p = absurd p
