@@ -74,7 +74,7 @@ pub fn start_of(faces: usize, width: u32, height: u32, level: u32) -> usize
 
 // The whole chain's texels.
 pub fn count_of(faces: usize, width: u32, height: u32) -> usize
-    requires { ⌜ (faces ≤ 6) × (width ≤ 4096) × (height ≤ 4096) ⌝ }
+    requires { ⌜ (faces ≤ 6) × (0 < width) × (width ≤ 4096) × (height ≤ 4096) ⌝ }
     ensures { λ r. ⌜ r ≡ count faces width height ⌝ }
 {
     start_of(faces, width, height, top_level(width, height) + 1)

@@ -1,8 +1,8 @@
+use Rattle.rules.proofs.Bounds.{faces-most}
 use mathlib.Core.Path.{_≡_, sym, _∙_}
 use native.Mathlib.Omega.{arith}
 use Rattle.rules.specs.Refusals.{pictureRefusal, chainRefusal}
 use Rattle.rules.proofs.Refusing.{orElse-zero, picture-facts, chain-picture}
-use Rattle.texture.proofs.Bounds.{faces-most}
 use borrow.Author.Needs.{needs}
 use Rattle.texture.proofs.refusals.chain_refusal.Statement.{statement}
 use Rattle.texture.proofs.refusals.chain_refusal.Tie as tie

@@ -1,10 +1,10 @@
+use Rattle.rules.proofs.Bounds.{faces-most, taken-top}
 use mathlib.Core.Path.{_≡_, sym, ap, _∙_}
 use native.Mathlib.Omega.{arith}
 use Rattle.rules.specs.declared.Sizes.the-variants.{Refused}
 use Rattle.rules.specs.Refusals.{levelSizesRefusal}
 use Rattle.rules.specs.Answers.{levelSizesAnswer}
 use Rattle.rules.proofs.Refusing.{Leveled, sizes-facts, answer-refused, answer-given}
-use Rattle.texture.proofs.Bounds.{faces-most, top-most}
 use borrow.Author.Needs.{needs}
 use Rattle.texture.proofs.sizes.level_sizes.Statement.{statement}
 use Rattle.texture.proofs.sizes.level_sizes.Tie as tie
@@ -31,20 +31,17 @@ known c = sizes-facts _ _ _ _ (fine c)
 start-of-requires : tie.Need-start-of-requires
 start-of-requires c κs =
     let k = known (c .before) in
-    let a = c .before .before .before .args in
-    omega (arith, top-most (a .width) (a .height) (k .taken .most-w) (k .taken .most-h), faces-most (a .kind))
+    omega (arith, taken-top (k .taken), faces-most (c .before .before .before .args .kind))
 
 side-at-requires : tie.Need-side-at-requires
 side-at-requires c κs =
     let k = known (c .before .before) in
-    let a = c .before .before .before .before .args in
-    omega (arith, top-most (a .width) (a .height) (k .taken .most-w) (k .taken .most-h))
+    omega (arith, taken-top (k .taken))
 
 side-at-requires-2 : tie.Need-side-at-requires-2
 side-at-requires-2 c κs =
     let k = known (c .before .before .before) in
-    let a = c .before .before .before .before .before .args in
-    omega (arith, top-most (a .width) (a .height) (k .taken .most-w) (k .taken .most-h))
+    omega (arith, taken-top (k .taken))
 
 count-of-requires : tie.Need-count-of-requires
 count-of-requires c κs =

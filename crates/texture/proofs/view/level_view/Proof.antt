@@ -1,16 +1,16 @@
 use native.Mathlib.Nat.{mul-le-mul}
-use Rattle.texture.proofs.Bounds.{side-most}
+use Rattle.texture.proofs.Starts.{side-most}
 use mathlib.Core.Path.{_≡_, sym, _∙_}
 use Prim.Native.Nat.{_+_, _*_, _≤_}
 use native.Mathlib.Nat.{add-sub-cancel-left}
+use native.Mathlib.Nat.{le-trans}
+use Rattle.rules.proofs.Bounds.{faces-most, taken-top, face-end}
 use native.Mathlib.Omega.{arith}
 use lib.ListN.{length}
 use Rattle.rules.specs.Refusals.{viewRefusal}
 use Rattle.rules.specs.View.{faceStart, faceView}
 use Rattle.rules.specs.Answers.{viewAnswer}
 use Rattle.rules.proofs.Refusing.{Viewed, view-facts, answer-given, answer-refused}
-use Rattle.texture.proofs.Bounds.{faces-most, top-most}
-use Rattle.texture.proofs.Views.{view-ends}
 use borrow.Author.Needs.{needs}
 use Rattle.texture.proofs.view.level_view.Statement.{statement}
 use Rattle.texture.proofs.view.level_view.Tie as tie
@@ -44,10 +44,7 @@ known : (c : tie.Else1)
 known c = view-facts _ _ _ _ _ _ (fine c)
 
 low : (c : tie.Else1) → c .before .before .before .args .level ≤ 12
-low c =
-    let a = c .before .before .before .args in
-    let k = known c in
-    omega (arith, k .below, top-most (a .width) (a .height) (k .chained .taken .most-w) (k .chained .taken .most-h))
+low c = omega (arith, known c .below, taken-top (known c .chained .taken))
 
 side-at-requires : tie.Need-side-at-requires
 side-at-requires c κs = omega (arith, low c)
@@ -67,8 +64,9 @@ ends : (c : tie.After-start-of)
     ≤ length (c .before .before .before .before .before .before .before .args .texels .now)
 unfolding faceStart
 ends c =
+    let e = c .before .before .before .before in
     rw (c .start-of .ensures, c .before .faces-of .ensures, c .before .before .before .side-at .ensures, c .before .before .side-at2 .ensures)
-    (view-ends (known (c .before .before .before .before)))
+    (le-trans (face-end _ _ _ _ _ (known e .below) (known e .face)) (known e .chained .room))
 
 mul-size : tie.Need-mul-size
 mul-size c =
