@@ -14,7 +14,7 @@ use Rattle.rules.specs.Cross.{crossWidth, crossHeight, columnOf, rowOf, byteTex
 use Rattle.rules.specs.Refusals.{crossSidesRefusal}
 use Rattle.rules.proofs.Refusing.{unless-none, Sides, sides-fact}
 use Rattle.kinds.specs.Runs.{over}
-use Rattle.texture.specs.Cells.{bytesAt, crossCell}
+use Rattle.texture.specs.Crosses.{bytesAt, crossCell}
 use Rattle.texture.proofs.Rows.{Rows, rows-first, rows-goes, rows-more, rows-end, over-front}
 
 -- where 10 is not given, the faces have sides 1 to 4,096

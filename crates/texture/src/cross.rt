@@ -11,7 +11,7 @@ ghost use Rattle.rules.specs.Cross.{crossWidth, crossHeight, columnOf, rowOf};
 ghost use Rattle.rules.specs.Refusals.{crossSidesRefusal, crossRefusal};
 ghost use Rattle.rules.specs.Answers.{crossAnswer, crossLeaves};
 ghost use Rattle.kinds.specs.Runs.{over};
-ghost use Rattle.texture.specs.Cells.{bytesAt, crossCell};
+ghost use Rattle.texture.specs.Crosses.{bytesAt, crossCell};
 
 // A face's place in the cross, its column in faces: 2 0 1 1 1 3.
 fn column_of(face: usize) -> usize

@@ -1,4 +1,4 @@
-use Rattle.texture.specs.Cells.{bytesAt}
+use Rattle.texture.specs.Crosses.{bytesAt}
 use borrow.Author.Needs.{needs}
 use Rattle.texture.proofs.cross.bytes_at.Statement.{statement}
 use Rattle.texture.proofs.cross.bytes_at.Tie as tie

@@ -3,7 +3,7 @@ use Prim.Native.Nat.{_+_, _-_, _≤_}
 use native.Mathlib.Omega.{arith}
 use lib.ListN.{length}
 use Rattle.kinds.proofs.Runs.{Over, over-first, over-set, over-end}
-use Rattle.texture.specs.Cells.{bytesAt}
+use Rattle.texture.specs.Crosses.{bytesAt}
 use Rattle.texture.proofs.cross.put_bytes.Statement.{statement}
 use Rattle.texture.proofs.cross.put_bytes.Tie as tie
 

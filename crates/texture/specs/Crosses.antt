@@ -1,6 +1,6 @@
--- The texels of a cut and of a cross, counted as the code writes them: row by row, one after the other. Definitions only.
-use Prim.Native.Nat.{ℕ, _+_, _*_, _/_, _%_}
+-- The cross as the code goes about it, texel by texel, row by row. Definitions only.
 use mathlib.Core.List.{List}
+use Prim.Native.Nat.{ℕ, _+_, _*_, _/_, _%_}
 use lib.ListN.{getD}
 use Rattle.rules.specs.Kinds.{rgba}
 use Rattle.rules.specs.Cross.{crossWidth, crossHeight, columnOf, rowOf, byteTexel}
