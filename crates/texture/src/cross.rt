@@ -51,16 +51,15 @@ fn cross_sides_refusal(width: u32, height: u32) -> u32
 fn cross_refusal(width: u32, height: u32, bytes: usize, faces: usize) -> u32
     ensures { λ r. ⌜ r ≡ crossRefusal width height bytes faces ⌝ }
 {
-    let sides = cross_sides_refusal(width, height);
-    if sides != 0 {
-        return sides;
+    let of_sides = cross_sides_refusal(width, height);
+    if of_sides != 0 {
+        return of_sides;
     }
     let w = width as usize;
     let h = height as usize;
-    or_else(
-        buffer_refusal(h * w * 4, bytes),
-        buffer_refusal(6 * (h / 3) * (w / 4), faces),
-    )
+    let of_bytes = buffer_refusal(h * w * 4, bytes);
+    let of_faces = buffer_refusal(6 * (h / 3) * (w / 4), faces);
+    or_else(of_bytes, of_faces)
 }
 
 // Texel i of a picture of bytes.

@@ -64,22 +64,17 @@ fn cut_refusal(
 ) -> u32
     ensures { λ r. ⌜ r ≡ cutCallRefusal kind width height source order corner sides target ⌝ }
 {
-    let picture = picture_refusal(kind, width, height);
-    if picture != 0 {
-        return picture;
+    let of_picture = picture_refusal(kind, width, height);
+    if of_picture != 0 {
+        return of_picture;
     }
     let level0 = faces_of(kind) * (height as usize) * (width as usize);
     let part = (sides.y as usize) * (sides.x as usize);
-    or_else(
-        buffer_refusal(level0, source),
-        or_else(
-            no_cubemap_refusal(kind),
-            or_else(
-                place_refusal(order, width, height, corner, sides),
-                buffer_refusal(part, target),
-            ),
-        ),
-    )
+    let of_source = buffer_refusal(level0, source);
+    let of_kind = no_cubemap_refusal(kind);
+    let of_place = place_refusal(order, width, height, corner, sides);
+    let of_target = buffer_refusal(part, target);
+    or_else(of_source, or_else(of_kind, or_else(of_place, of_target)))
 }
 
 // The first n of o, put at `to`.

@@ -104,9 +104,9 @@ pub fn picture_refusal(kind: u32, width: u32, height: u32) -> u32
 pub fn chain_refusal(kind: u32, width: u32, height: u32, n: usize) -> u32
     ensures { λ r. ⌜ r ≡ chainRefusal kind width height n ⌝ }
 {
-    let picture = picture_refusal(kind, width, height);
-    if picture != 0 {
-        return picture;
+    let of_picture = picture_refusal(kind, width, height);
+    if of_picture != 0 {
+        return of_picture;
     }
     buffer_refusal(count_of(faces_of(kind), width, height), n)
 }
