@@ -49,9 +49,12 @@ half-cut {k} {w} {h} {cx} {cy} {cw} {ch} c =
 le-multiple : (k x : ℕ) → 0 < x → x % 2 ^ k ≡ 0 → 2 ^ k ≤ x
 le-multiple k x p e = elim (decLe (2 ^ k) x) [ yes l ↦ l | no f ↦ let z = mod-eq-of-lt {n = x} {m = 2 ^ k} (omega arith) in absurd (omega arith) ]
 
--- an aligned cut has k levels above its level 0
+-- an aligned cut has k levels above its level 0, and so has the picture that it is cut from
 pub cut-top : {k w h cx cy cw ch : ℕ} → CutAt k w h cx cy cw ch → k ≤ top cw ch
 cut-top {k} {cw} {ch} c = le-top k cw ch (c .some-w) (le-multiple k cw (c .some-w) (c .side-w))
+
+pub cut-inside : {k w h cx cy cw ch : ℕ} → CutAt k w h cx cy cw ch → k ≤ top w h
+cut-inside {k} {w} {h} {cw} c = let m = le-multiple k cw (c .some-w) (c .side-w) in le-top k w h (omega arith) (omega arith)
 
 module _ (reduce : ℕ → ℕ → ℕ → ℕ → ℕ) where
   -- where neither side is held, the four texels are a square

@@ -7,3 +7,5 @@ pub mod Laws
 pub mod Refusing
 pub mod RefusingCuts
 pub mod RefusingLookups
+pub mod Views
+pub mod Calls
