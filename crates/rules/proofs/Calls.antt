@@ -3,7 +3,7 @@
 -- pictures. Assumes nothing.
 use mathlib.Core.Path.{_≡_, sym, ap, _∙_}
 use mathlib.Core.List.{List, _++_}
-use Prim.Native.Nat.{ℕ, _+_, _*_, _≤_, _<_}
+use Prim.Native.Nat.{ℕ, _+_, _-_, _*_, _/_, _^_, _≤_, _<_}
 use native.Mathlib.Nat.{one-mul, le-trans}
 use native.Mathlib.Omega.{arith}
 use lib.ListN.{length, take, drop, length-append, length-drop}
@@ -17,15 +17,15 @@ use Rattle.rules.specs.View.{faceStart}
 use Rattle.rules.specs.Cuts.{cut, matchingCut, CutAt}
 use Rattle.rules.specs.Pictures.{levelOf, chainOf}
 use Rattle.rules.specs.Refusals.{chainRefusal, cutCallRefusal}
-use Rattle.rules.specs.Answers.{chainAnswer, chainLeaves, viewAnswer, cutLeaves}
+use Rattle.rules.specs.Answers.{chainAnswer, chainLeaves, viewAnswer, cutAnswer, cutLeaves}
 use Rattle.rules.proofs.Grid.{place-lt, length-grid, grid-ext}
 use Rattle.rules.proofs.Sides.{side-add, start-add, count-side}
 use Rattle.rules.proofs.Bounds.{faces-flat}
-use Rattle.rules.proofs.Cut.{cut-top, cut-inside}
+use Rattle.rules.proofs.Cut.{matching-at, cut-top, cut-inside}
 use Rattle.rules.proofs.Refusing.{answer-given, Chained, chain-taken, chain-facts}
-use Rattle.rules.proofs.RefusingCuts.{CutCall, cut-facts}
+use Rattle.rules.proofs.RefusingCuts.{CutCall, cut-taken, cut-facts}
 use Rattle.rules.proofs.Laws.{level-picture, reduce-again, chain-again, filled-again, cut-again}
-use Rattle.rules.proofs.Views.{level0, front-picture, chain-answered, chain-front, views, views-left, view-left, view-flat}
+use Rattle.rules.proofs.Views.{level0, front-picture, chain-answered, chain-front, length-left, level0-left, views, views-left, view-left, view-flat}
 
 -- ---- reopening
 
@@ -93,6 +93,10 @@ cut-level0 kind k w h cx cy cw ch l flat c =
     rw (faces-flat kind flat) (grid-ext 1 cw ch (c .some-w) (c .some-h) _ _ λ f x y hf hx hy.
     getD-take (1 * h * w) l ((f * h + (cy + y)) * w + (cx + x)) 0 (place-lt hf (omega arith) (omega arith)))
 
+-- a corner or sides divided by 2^j
+abbrev pub dividedBy : ℕ → Pair → Pair
+dividedBy j p = record { x = p .x / 2 ^ j; y = p .y / 2 ^ j }
+
 -- `source` is given its chain; an aligned cut of it is written to `target`, which has room for the chain of a picture of the cut's
 -- sides; that is given its chain too
 module _ (kind w h k : ℕ) (corner sides : Pair) (source target : List ℕ) (given : chainRefusal kind w h (length source) ≡ 0)
@@ -135,6 +139,28 @@ module _ (kind w h k : ℕ) (corner sides : Pair) (source target : List ℕ) (gi
         room = rw length-piece room;
       }
 
+  -- neither call is refused
+  pub cut-answers : (cutAnswer kind w h source k corner sides target ≡ Texels (sides .y * sides .x))
+      × (chainAnswer kind (sides .x) (sides .y) (cutLeaves kind w h source k corner sides target) ≡ Texels (count (facesOf kind) (sides .x) (sides .y)))
+  unfolding cutAnswer
+  cut-answers = (answer-given _ _ _ taken, chain-answered kind (sides .x) (sides .y) (cutLeaves kind w h source k corner sides target) piece)
+
+  -- it is the same cut whether `source` has its chain by then or not
+  pub cut-late : cutLeaves kind w h (chainLeaves kind w h source) k corner sides target ≡ cutLeaves kind w h source k corner sides target
+  unfolding cutLeaves
+  cut-late =
+      let cx = corner .x in
+      let cy = corner .y in
+      let cw = sides .x in
+      let ch = sides .y in
+      let flat = facts .flat in
+      rw (
+        length-left kind w h source whole,
+        ← cut-level0 kind k w h cx cy cw ch (chainLeaves kind w h source) flat at,
+        level0-left kind w h source whole,
+        cut-level0 kind k w h cx cy cw ch source flat at,
+      )
+
   -- the first k reductions of the cut are the matching cuts of the whole picture's, as the view hands them out
   pub cut-view : (j : ℕ) → j ≤ k
       → viewAnswer kind (sides .x) (sides .y) (chainLeaves kind (sides .x) (sides .y) (cutLeaves kind w h source k corner sides target)) j 0
@@ -150,3 +176,28 @@ module _ (kind w h k : ℕ) (corner sides : Pair) (source target : List ℕ) (gi
       view-flat kind cw ch (cutLeaves kind w h source k corner sides target) piece j below flat
       ∙ rw (cut-front, ← cut-level0 kind k w h cx cy cw ch source flat at, view-flat kind w h source whole j above flat)
       (cut-again kind k w h cx cy cw ch (level0 kind w h source) flat at j le)
+
+  -- cutting the picture and then reducing j times is reducing j times and then cutting: `reduced` begins with level j of `source`, as
+  -- the view hands it out, and the matching cut of it is written to `out`
+  pub cut-of-level : (j : ℕ) (reduced out : List ℕ) → j ≤ k
+      → level0 kind (sideAt j w) (sideAt j h) reduced ≡ viewAnswer kind w h (chainLeaves kind w h source) j 0
+      → facesOf kind * sideAt j h * sideAt j w ≤ length reduced
+      → sides .y / 2 ^ j * (sides .x / 2 ^ j) ≤ length out
+      → cutLeaves kind (sideAt j w) (sideAt j h) reduced (k - j) (dividedBy j corner) (dividedBy j sides) out
+      ≡ viewAnswer kind (sides .x) (sides .y) (chainLeaves kind (sides .x) (sides .y) (cutLeaves kind w h source k corner sides target)) j 0
+      ++ drop (sides .y / 2 ^ j * (sides .x / 2 ^ j)) out
+  unfolding cutLeaves matchingCut
+  cut-of-level j reduced out le front long space =
+      let p = level-picture kind j w h (level0 kind w h source) (front-picture kind w h source whole) in
+      let order = facts .cutting .order in
+      let c = matching-at j k w h (corner .x) (corner .y) (sides .x) (sides .y) le at in
+      let call : CutCall kind (sideAt j w) (sideAt j h) (length reduced) (k - j) (dividedBy j corner) (dividedBy j sides) (length out) =
+      record {
+        taken = record { known = p .known; some-w = p .some-w; some-h = p .some-h; most-w = p .most-w; most-h = p .most-h };
+        level0 = long;
+        flat = facts .flat;
+        cutting = record { order = omega arith; at = c };
+        room = space;
+      } in
+      answer-given _ _ _ (cut-taken kind (sideAt j w) (sideAt j h) (length reduced) (k - j) (dividedBy j corner) (dividedBy j sides) (length out) call)
+      ∙ rw (cut-view j le, ← front, cut-level0 kind (k - j) (sideAt j w) (sideAt j h) (corner .x / 2 ^ j) (corner .y / 2 ^ j) (sides .x / 2 ^ j) (sides .y / 2 ^ j) reduced (facts .flat) c)

@@ -11,7 +11,7 @@ use Rattle.rules.specs.declared.Filled.the-variants.{Texels}
 use Rattle.rules.specs.Kinds.{cubemap, facesOf}
 use Rattle.rules.specs.Sizes.{sideAt, top, sizeAt, start, count}
 use Rattle.rules.specs.View.{faceStart, faceView}
-use Rattle.rules.specs.Levels.{filled}
+use Rattle.rules.specs.Levels.{level, filled}
 use Rattle.rules.specs.Pictures.{Picture, levelOf, chainOf, filledOf}
 use Rattle.rules.specs.Answers.{chainAnswer, chainLeaves, viewAnswer}
 use Rattle.rules.proofs.Sides.{size-zero}
@@ -79,6 +79,11 @@ module _ (kind w h : ℕ) (buffer : List ℕ) (c : Chained kind w h (length buff
         let end = level-end F w h m le in
         rw (chain-left, part-front (start F w h m) (sizeAt F w h m) l (drop (count F w h) buffer) (omega arith))
         (chain-holds kind w h (level0 kind w h buffer) front-picture m le)
+
+  -- level 0 stays as it was
+  pub level0-left : level0 kind w h (chainLeaves kind w h buffer) ≡ level0 kind w h buffer
+  unfolding start levelOf level
+  level0-left = let t = c .taken in rw (size-zero (facesOf kind) w h (t .some-w) (t .some-h)) at (level-left 0 (omega arith))
 
 -- ---- the view
 
