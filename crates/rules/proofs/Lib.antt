@@ -9,3 +9,4 @@ pub mod RefusingCuts
 pub mod RefusingLookups
 pub mod Views
 pub mod Calls
+pub mod Examples
