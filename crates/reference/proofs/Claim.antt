@@ -20,9 +20,10 @@ use Rattle.rules.specs.Refusals.{_orElse_, kindRefusal, sidesRefusal, bufferRef
 use Rattle.rules.specs.Answers.{answer, levelSizesAnswer, chainLeaves, mipLevelAnswer, spotsOf, facingAnswer, sample4RgbAnswer}
 use Rattle.reference.specs.Items.{Holds, table}
 
-infixr 2 _&_
-_&_ : {A B : Type 0} → A → B → A × B
-a & b = (a, b)
+-- a row that holds, and those behind it
+infixr 2 _also_
+_also_ : {A B : Type 0} → A → B → A × B
+a also b = (a, b)
 
 pub reference : Holds table
 unfolding levelSizesAnswer chainLeaves mipLevelAnswer spotsOf facingAnswer sample4RgbAnswer answer
@@ -36,13 +37,13 @@ unfolding levelSizesAnswer chainLeaves mipLevelAnswer spotsOf facingAnswer sampl
     planeOf placeOf rgbOf nearestOf nearestPlace nearestRgb directionTaken signOf oddOf spotAt spotOf
     add sub mul div neg lt le ofBits ofInt toUnsigned
 reference =
-    refl & refl & refl & refl & refl & refl
-    & refl & refl & refl & refl
-    & refl & refl & refl
-    & refl & refl & refl
-    & refl & refl & refl & refl
-    & refl & refl & refl
-    & refl & refl & refl
-    & refl & refl & refl & refl
-    & refl & refl & refl
-    & tt
+    refl also refl also refl also refl also refl also refl
+    also refl also refl also refl also refl
+    also refl also refl also refl
+    also refl also refl also refl
+    also refl also refl also refl also refl
+    also refl also refl also refl
+    also refl also refl also refl
+    also refl also refl also refl also refl
+    also refl also refl also refl
+    also tt
