@@ -22,7 +22,7 @@ use Rattle.rules.proofs.Grid.{place-lt, length-grid, grid-ext}
 use Rattle.rules.proofs.Sides.{side-add, start-add, count-side}
 use Rattle.rules.proofs.Bounds.{faces-flat}
 use Rattle.rules.proofs.Cut.{matching-at, cut-top, cut-inside}
-use Rattle.rules.proofs.Refusing.{answer-given, Chained, chain-taken, chain-facts}
+use Rattle.rules.proofs.Refusing.{answer-given, taken-of, Chained, chain-taken, chain-facts}
 use Rattle.rules.proofs.RefusingCuts.{CutCall, cut-taken, cut-facts}
 use Rattle.rules.proofs.Laws.{level-picture, reduce-again, chain-again, filled-again, cut-again}
 use Rattle.rules.proofs.Views.{level0, front-picture, chain-answered, chain-front, length-left, level0-left, views, views-left, view-left, view-flat}
@@ -38,16 +38,12 @@ module _ (kind w h a : ℕ) (buffer copy : List ℕ) (given : chainRefusal kind 
   first = chain-facts kind w h (length buffer) given
 
   viewed : take (sizeAt (facesOf kind) w h a) copy ≡ levelOf kind a w h (level0 kind w h buffer)
-  viewed =
-      copied ∙ views-left kind w h buffer first a le
+  viewed = copied ∙ views-left kind w h buffer first a le
 
   second : Chained kind (sideAt a w) (sideAt a h) (length copy)
   second =
       let p = level-picture kind a w h (level0 kind w h buffer) (front-picture kind w h buffer first) in
-      record {
-        taken = record { known = p .known; some-w = p .some-w; some-h = p .some-h; most-w = p .most-w; most-h = p .most-h };
-        room = room;
-      }
+      record { taken = taken-of p; room = room }
 
   -- it is not refused, and answers as many texels as the first chain has from level a on
   pub reopened-answer : (chainAnswer kind (sideAt a w) (sideAt a h) copy ≡ Texels (count (facesOf kind) (sideAt a w) (sideAt a h)))
@@ -193,7 +189,7 @@ module _ (kind w h k : ℕ) (corner sides : Pair) (source target : List ℕ) (gi
       let c = matching-at j k w h (corner .x) (corner .y) (sides .x) (sides .y) le at in
       let call : CutCall kind (sideAt j w) (sideAt j h) (length reduced) (k - j) (dividedBy j corner) (dividedBy j sides) (length out) =
       record {
-        taken = record { known = p .known; some-w = p .some-w; some-h = p .some-h; most-w = p .most-w; most-h = p .most-h };
+        taken = taken-of p;
         level0 = long;
         flat = facts .flat;
         cutting = record { order = omega arith; at = c };
