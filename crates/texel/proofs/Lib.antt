@@ -2,6 +2,9 @@ pub mod Range
 pub mod Total
 pub mod Unit
 pub mod Unique
+pub mod Patterns
+pub mod RootDigits
+pub mod RootRule
 pub mod Same
 pub mod Floors
 pub mod Fraction

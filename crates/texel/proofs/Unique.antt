@@ -244,7 +244,7 @@ top-units : 2 ^ 278 ≤ units (2 ^ 31 - 1) + units (2 ^ 31)
 unfolding units
 top-units = lib.Dec.lit≤ tt
 
-mul-pow : (a b q : ℕ) → (a * b) ^ q ≡ a ^ q * b ^ q
+pub mul-pow : (a b q : ℕ) → (a * b) ^ q ≡ a ^ q * b ^ q
 mul-pow a b zero = pow-zero (a * b) ∙ sym (ap₂ _*_ (pow-zero a) (pow-zero b))
 mul-pow a b (suc q) = pow-suc (a * b) q ∙ ap (λ (z : ℕ). z * (a * b)) (mul-pow a b q) ∙ mul-mul-mul-comm (a ^ q) (b ^ q) a b ∙ sym (ap₂ _*_ (pow-suc a q) (pow-suc b q))
 

@@ -1,2 +1,3 @@
 -- The ranges that the lower crate's functions ask.
 pub mod Ends
+pub mod Digits

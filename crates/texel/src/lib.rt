@@ -1,4 +1,5 @@
 // One texel and one number: bytes, packing, whole numbers.
 pub mod bytes;
 pub mod packing;
+pub mod root;
 pub mod whole;
