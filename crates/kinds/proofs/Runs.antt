@@ -1,13 +1,13 @@
 -- Runs written over a buffer, joined. Assumes nothing.
-use mathlib.Core.Path.{_≡_, refl, sym, ap, ap₂, _∙_}
-use mathlib.Core.List.{List, [], _∷_, _++_, append-assoc}
-use Prim.Native.Nat.{ℕ, zero, suc, _+_, _-_, _*_, _/_, _%_, _≤_, _<_, min}
+use mathlib.Core.Path.{_≡_, refl, sym, ap, _∙_}
+use mathlib.Core.List.{List, _∷_, _++_, append-assoc}
+use Prim.Native.Nat.{ℕ, zero, suc, _+_, _≤_, _<_}
 use native.Mathlib.Nat.{zero-add, add-zero, add-suc, suc-add, add-assoc}
 use native.Mathlib.Omega.{arith}
 use lib.ListN.{length, getD, take, drop, set, length-append, length-drop, take-append-drop, List·getD-append}
 use lib.Seq.{length-take-le, take-at, drop-at, drop-drop, getD-take, set-split}
 use Rattle.rules.specs.Levels.{tab}
-use Rattle.rules.proofs.Grid.{length-tab, getD-tab, tab-ext}
+use Rattle.rules.proofs.Grid.{length-tab, tab-ext}
 use Rattle.kinds.specs.Runs.{over}
 
 -- ---- runs

@@ -1,4 +1,5 @@
-// For each kind, one texel of four, and a row of them from the two rows above.
+// By kind: one texel of four, and a row of them from the two rows above.
 pub mod channel;
 pub mod linear;
+pub mod metallic;
 pub mod normal;
