@@ -1,6 +1,7 @@
 pub mod Range
 pub mod Total
 pub mod Unit
+pub mod Units
 pub mod Unique
 pub mod Patterns
 pub mod RootDigits

@@ -17,7 +17,7 @@ use lib.Ieee.Positive.{num, den, positive, value→cross}
 use lib.Ieee.Bits.{is-false, ofBits-toBits, toBits-lt, nanBits-above}
 use Rattle.rules.specs.NearestValue.{units}
 use Rattle.texel.proofs.Range.{positive-num}
-use Rattle.texel.proofs.Unique.{units-low, units-high, units-le}
+use Rattle.texel.proofs.Units.{units-low, units-high, units-le}
 
 -- ---- the value of a pattern
 -- by the field and the digits
