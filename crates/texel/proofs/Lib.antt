@@ -4,6 +4,9 @@ pub mod Unit
 pub mod Units
 pub mod Unique
 pub mod Patterns
+pub mod Every
+pub mod Table
+pub mod Inverse
 pub mod RootDigits
 pub mod RootRule
 pub mod Same
