@@ -1,4 +1,6 @@
--- Runs written over a buffer, joined. Assumes nothing.
+-- A run is n texels f 0, f 1, … that stand over a buffer from one place on. A run of none is the buffer itself, a second run right
+-- behind a first joins it to one longer run, and what lies before a run is as it was: so a loop that writes texel after texel, or
+-- part after part, leaves one run. Assumes nothing.
 use mathlib.Core.Path.{_≡_, refl, sym, ap, _∙_}
 use mathlib.Core.List.{List, _∷_, _++_, append-assoc}
 use Prim.Native.Nat.{ℕ, zero, suc, _+_, _≤_, _<_}
