@@ -1,4 +1,4 @@
 // Levels, each made from the one before in one lent buffer.
 pub mod chain;
 pub mod level;
-mod row;
+pub mod row;

@@ -15,7 +15,7 @@ fn least(a: usize, b: usize) -> usize
 }
 
 // The first n of o, put at `to`.
-fn put(n: usize, to: usize, o: &[u32], s: &mut [u32])
+pub fn put(n: usize, to: usize, o: &[u32], s: &mut [u32])
     requires { ⌜ (n ≤ length (now o)) × (to + n ≤ length (now s)) ⌝ }
     ensures { λ _. ⌜ now (s .exit) ≡ over to (now (s .entry)) n (λ i. getD (now (o .entry)) i 0) ⌝ }
 {

@@ -4,11 +4,12 @@ use crate::refusals::no_cubemap_refusal;
 use crate::refusals::or_else;
 use crate::refusals::picture_refusal;
 use crate::sizes::faces_of;
+use reduce::row::put;
 use rules::Filled;
 use rules::Pair;
 ghost use mathlib.Core.Path.{_≡_};
 ghost use Prim.Native.Nat.{_+_, _*_, _<_, _≤_};
-ghost use lib.ListN.{length, getD};
+ghost use lib.ListN.{length};
 ghost use Rattle.rules.specs.Cuts.{aligned};
 ghost use Rattle.rules.specs.Refusals.{cutRefusal, cutCallRefusal};
 ghost use Rattle.rules.specs.Answers.{cutAnswer, cutLeaves};
@@ -75,18 +76,6 @@ fn cut_refusal(
     let of_place = place_refusal(order, width, height, corner, sides);
     let of_target = buffer_refusal(part, target);
     or_else(of_source, or_else(of_kind, or_else(of_place, of_target)))
-}
-
-// The first n of o, put at `to`.
-fn put(n: usize, to: usize, o: &[u32], s: &mut [u32])
-    requires { ⌜ (n ≤ length (now o)) × (to + n ≤ length (now s)) ⌝ }
-    ensures { λ _. ⌜ now (s .exit) ≡ over to (now (s .entry)) n (λ x. getD (now (o .entry)) x 0) ⌝ }
-{
-    let mut x = 0;
-    while x < n {
-        s[to + x] = o[x];
-        x += 1;
-    }
 }
 
 // Writes the cut's rows one after the other. The source's level 0 is w wide.
