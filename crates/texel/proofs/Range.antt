@@ -349,6 +349,9 @@ between-finite (fin s m e) (fin u i j) (fin t n d) p q h k = tt
 pub le-trans-finite : (x y z : Float) → T (finite x) → T (finite y) → T (finite z) → T (le x y) → T (le y z) → T (le x z)
 le-trans-finite x y z p q r h k = →le x z p r (Le-trans (plus (sgn x) (num x)) (less (sgn x) (num x)) (den x) (plus (sgn y) (num y)) (less (sgn y) (num y)) (den y) (plus (sgn z) (num z)) (less (sgn z) (num z)) (den z) (den-pos y) (le→ x y p q h) (le→ y z q r k))
 
+pub le-self : (x : Float) → T (finite x) → T (le x x)
+le-self x p = →le x x p p (le-refl (plus (sgn x) (num x) * den x + less (sgn x) (num x) * den x))
+
 -- ---- values that are not negative: -0 is one of them
 abbrev Zero : Bool → ℕ → Type 0
 Zero true a = a ≡ 0
@@ -677,7 +680,7 @@ pub in-mul-abs : (f : Format) (z a x y b : Float) → T (finite z) → num z ≡
 in-mul-abs f z a x y b Z E A za Y zy B yb F G zz k =
     let X = Between-finite (neg a) x a (neg-finite a A) A k in
     let Yf = positive-finite y Y in
-    let top : T (le (mul f a y) (mul f a b)) = mul-mono f z a a y b Z E A A Yf B za zy (refl-le a A) yb in
+    let top : T (le (mul f a y) (mul f a b)) = mul-mono f z a a y b Z E A A Yf B za zy (le-self a A) yb in
     let bottom : T (le (mul f z z) (mul f a y)) = mul-mono f z z a z y Z E Z A Z Yf zz zz za zy in
     let M : T (finite (mul f a y)) = between-finite (mul f z z) (mul f a y) (mul f a b) G F bottom top in
     let xy : T (finite (mul f x y)) = between-finite (mul f (neg a) y) (mul f x y) (mul f a y) (rw (mul-neg f a y A Yf) (neg-finite (mul f a y) M)) M (mul-mono-by f (neg a) x y (neg-finite a A) X Y (k .low)) (mul-mono-by f x a y X A Y (k .high)) in
@@ -686,9 +689,3 @@ in-mul-abs f z a x y b Z E A za Y zy B yb F G zz k =
           (subst (λ (w : Float). T (le w (mul f x y))) (mul-neg f a y A Yf) (mul-mono-by f (neg a) x y (neg-finite a A) X Y (k .low)));
       high = le-trans-finite (mul f x y) (mul f a y) (mul f a b) xy M F (mul-mono-by f x a y X A Y (k .high)) top;
     }
-  where
-    refl-le : (a : Float) → T (finite a) → T (le a a)
-    refl-le a A = →le a a A A (le-refl' (plus (sgn a) (num a)) (less (sgn a) (num a)) (den a))
-      where
-        le-refl' : (p n c : ℕ) → p * c + n * c ≤ p * c + n * c
-        le-refl' p n c = le-refl (p * c + n * c)

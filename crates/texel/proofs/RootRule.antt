@@ -18,7 +18,8 @@ use Rattle.rules.specs.Floats.{Between, zero32, one32, largest}
 use Rattle.rules.specs.NearestValue.{units, within, nearestRoot, rootPattern}
 use Rattle.rules.specs.Root.{RootOf, sqrtOf}
 use Rattle.texel.proofs.Range.{le→, lt→, →lt, Between-finite, le-trans-finite}
-use Rattle.texel.proofs.Unique.{units-le, units-lt, unique, weak, mul-pow, nearest-found}
+use Rattle.texel.proofs.Units.{units-le, units-lt}
+use Rattle.texel.proofs.Unique.{reached-le, nearest-reached, unique, mul-pow, nearest-found}
 use Rattle.texel.proofs.Patterns.{pattern-le, cross}
 
 -- ---- the rule sees only the fraction: n / d is n' / d'
@@ -50,14 +51,13 @@ sum-lt : (u a b : ℕ) → u ≤ a → u < b → 2 * u < a + b
 sum-lt u a b h g = omega arith
 
 at-most : (n d p q : ℕ) → 0 < d → (2 ^ 149) ^ 2 * n ≤ units q ^ 2 * d → T (nearestRoot 2 n d p) → p ≤ q
-unfolding nearestRoot
 at-most n d p q D h t = le-of-suc-le-suc (lt-of-not-le (λ (l : q < p). over l))
   where
     over : q < p → ⊥
     over l =
         let g : 2 * units q < units (p - 1) + units p = sum-lt (units q) (units (p - 1)) (units p) (units-le q (p - 1) (omega arith)) (units-lt q p l) in
         let k : (2 * units q) ^ 2 * d < (units (p - 1) + units p) ^ 2 * d = mul-lt-mul-of-pos-right (pow-lt-pow-left g two-not-zero) D in
-        let w = weak (eqb (p % 2) 0) ((units (p - 1) + units p) ^ 2 * d) ((2 ^ 150) ^ 2 * n) ((units p + units (p + 1)) ^ 2 * d) t .0 in
+        let w = reached-le 2 n d p (nearest-reached 2 n d p t) in
         clash ((2 ^ 149) ^ 2 * n) (units q ^ 2 * d) ((2 ^ 150) ^ 2 * n) ((2 * units q) ^ 2 * d) ((units (p - 1) + units p) ^ 2 * d) h (mul-assoc 4 ((2 ^ 149) ^ 2) n) (four (units q)) k w
       where
         two-not-zero : _≡_ {A = ℕ} 2 0 → ⊥
