@@ -151,7 +151,7 @@ pub trait Rules {
     fn nearest_place(value: f32) -> u32 {
         let below = value.floor();
         let part = value - below;
-        let even = (below as u32).is_multiple_of(2);
+        let even = below as u32 % 2 == 0;
         if part > 0.5 || (part == 0.5 && !even) {
             below as u32 + 1
         } else {

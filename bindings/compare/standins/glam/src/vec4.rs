@@ -1,0 +1,261 @@
+//! Four numbers side by side.
+
+use crate::lanes;
+use crate::masks::BVec4A;
+use std::ops::{Add, AddAssign, Div, DivAssign, Index, Mul, MulAssign, Neg, Sub, SubAssign};
+
+/// Four f32.
+#[derive(Clone, Copy, PartialEq, Debug, Default)]
+#[repr(C, align(16))]
+pub struct Vec4 {
+    pub x: f32,
+    pub y: f32,
+    pub z: f32,
+    pub w: f32,
+}
+
+impl Vec4 {
+    pub const ZERO: Self = Self::splat(0.0);
+    pub const ONE: Self = Self::splat(1.0);
+    pub const NEG_ONE: Self = Self::splat(-1.0);
+
+    #[inline(always)]
+    pub const fn new(x: f32, y: f32, z: f32, w: f32) -> Self {
+        Vec4 { x, y, z, w }
+    }
+
+    #[inline(always)]
+    pub const fn splat(value: f32) -> Self {
+        Vec4::new(value, value, value, value)
+    }
+
+    /// The lanes of `a` where the mask holds, those of `b` elsewhere.
+    #[inline(always)]
+    pub fn select(mask: BVec4A, a: Vec4, b: Vec4) -> Vec4 {
+        let pick = |lane: usize, a: f32, b: f32| if mask.lane(lane) { a } else { b };
+        Vec4::new(
+            pick(0, a.x, b.x),
+            pick(1, a.y, b.y),
+            pick(2, a.z, b.z),
+            pick(3, a.w, b.w),
+        )
+    }
+
+    #[inline(always)]
+    fn each(self, lane: impl Fn(f32) -> f32) -> Vec4 {
+        Vec4::new(lane(self.x), lane(self.y), lane(self.z), lane(self.w))
+    }
+
+    #[inline(always)]
+    fn pairs(self, other: Vec4, lane: impl Fn(f32, f32) -> f32) -> Vec4 {
+        Vec4::new(
+            lane(self.x, other.x),
+            lane(self.y, other.y),
+            lane(self.z, other.z),
+            lane(self.w, other.w),
+        )
+    }
+
+    #[inline(always)]
+    fn holds(self, other: Vec4, lane: impl Fn(f32, f32) -> bool) -> BVec4A {
+        BVec4A::from([
+            lane(self.x, other.x),
+            lane(self.y, other.y),
+            lane(self.z, other.z),
+            lane(self.w, other.w),
+        ])
+    }
+
+    #[inline(always)]
+    pub fn abs(self) -> Vec4 {
+        self.each(f32::abs)
+    }
+
+    #[inline(always)]
+    pub fn floor(self) -> Vec4 {
+        self.each(lanes::floor)
+    }
+
+    #[inline(always)]
+    pub fn round(self) -> Vec4 {
+        self.each(lanes::round)
+    }
+
+    #[inline(always)]
+    pub fn min(self, other: Vec4) -> Vec4 {
+        self.pairs(other, lanes::min)
+    }
+
+    #[inline(always)]
+    pub fn max(self, other: Vec4) -> Vec4 {
+        self.pairs(other, lanes::max)
+    }
+
+    #[inline(always)]
+    pub fn clamp(self, least: Vec4, most: Vec4) -> Vec4 {
+        self.max(least).min(most)
+    }
+
+    #[inline(always)]
+    pub fn cmpge(self, other: Vec4) -> BVec4A {
+        self.holds(other, |a, b| a >= b)
+    }
+
+    #[inline(always)]
+    pub fn cmpgt(self, other: Vec4) -> BVec4A {
+        self.holds(other, |a, b| a > b)
+    }
+
+    /// Each lane cast to u32, held to its range.
+    #[inline(always)]
+    pub fn as_uvec4(self) -> UVec4 {
+        UVec4::new(self.x as u32, self.y as u32, self.z as u32, self.w as u32)
+    }
+}
+
+impl Index<usize> for Vec4 {
+    type Output = f32;
+
+    #[inline(always)]
+    fn index(&self, lane: usize) -> &f32 {
+        match lane {
+            0 => &self.x,
+            1 => &self.y,
+            2 => &self.z,
+            3 => &self.w,
+            _ => panic!("a vector of four has no lane {lane}"),
+        }
+    }
+}
+
+impl Neg for Vec4 {
+    type Output = Vec4;
+
+    #[inline(always)]
+    fn neg(self) -> Vec4 {
+        self.each(|x| -x)
+    }
+}
+
+macro_rules! operation {
+    ($trait:ident $call:ident $assign:ident $assign_call:ident) => {
+        impl $trait for Vec4 {
+            type Output = Vec4;
+
+            #[inline(always)]
+            fn $call(self, other: Vec4) -> Vec4 {
+                self.pairs(other, |a, b| a.$call(b))
+            }
+        }
+
+        impl $trait<f32> for Vec4 {
+            type Output = Vec4;
+
+            #[inline(always)]
+            fn $call(self, other: f32) -> Vec4 {
+                self.each(|a| a.$call(other))
+            }
+        }
+
+        impl $trait<Vec4> for f32 {
+            type Output = Vec4;
+
+            #[inline(always)]
+            fn $call(self, other: Vec4) -> Vec4 {
+                other.each(|b| self.$call(b))
+            }
+        }
+
+        impl $assign for Vec4 {
+            #[inline(always)]
+            fn $assign_call(&mut self, other: Vec4) {
+                *self = (*self).$call(other);
+            }
+        }
+
+        impl $assign<f32> for Vec4 {
+            #[inline(always)]
+            fn $assign_call(&mut self, other: f32) {
+                *self = (*self).$call(other);
+            }
+        }
+    };
+}
+
+operation!(Add add AddAssign add_assign);
+operation!(Sub sub SubAssign sub_assign);
+operation!(Mul mul MulAssign mul_assign);
+operation!(Div div DivAssign div_assign);
+
+#[cfg(target_arch = "x86_64")]
+impl From<Vec4> for std::arch::x86_64::__m128 {
+    #[inline(always)]
+    fn from(v: Vec4) -> Self {
+        // Both are four f32, aligned to 16 bytes.
+        unsafe { std::mem::transmute(v) }
+    }
+}
+
+#[cfg(target_arch = "x86_64")]
+impl From<std::arch::x86_64::__m128> for Vec4 {
+    #[inline(always)]
+    fn from(v: std::arch::x86_64::__m128) -> Self {
+        // Both are four f32, aligned to 16 bytes.
+        unsafe { std::mem::transmute(v) }
+    }
+}
+
+/// Four u32.
+#[derive(Clone, Copy, PartialEq, Eq, Debug, Default)]
+#[repr(C, align(16))]
+pub struct UVec4 {
+    pub x: u32,
+    pub y: u32,
+    pub z: u32,
+    pub w: u32,
+}
+
+impl UVec4 {
+    #[inline(always)]
+    pub const fn new(x: u32, y: u32, z: u32, w: u32) -> Self {
+        UVec4 { x, y, z, w }
+    }
+
+    #[inline(always)]
+    pub const fn splat(value: u32) -> Self {
+        UVec4::new(value, value, value, value)
+    }
+
+    #[inline(always)]
+    fn pairs(self, other: UVec4, lane: impl Fn(u32, u32) -> u32) -> UVec4 {
+        UVec4::new(
+            lane(self.x, other.x),
+            lane(self.y, other.y),
+            lane(self.z, other.z),
+            lane(self.w, other.w),
+        )
+    }
+
+    #[inline(always)]
+    pub fn min(self, other: UVec4) -> UVec4 {
+        self.pairs(other, u32::min)
+    }
+}
+
+impl Add for UVec4 {
+    type Output = UVec4;
+
+    #[inline(always)]
+    fn add(self, other: UVec4) -> UVec4 {
+        self.pairs(other, |a, b| a + b)
+    }
+}
+
+impl Mul for UVec4 {
+    type Output = UVec4;
+
+    #[inline(always)]
+    fn mul(self, other: UVec4) -> UVec4 {
+        self.pairs(other, |a, b| a * b)
+    }
+}
