@@ -4,9 +4,15 @@
 #[cfg(feature = "unit")]
 pub mod boundary;
 pub mod call;
+pub mod cases;
+pub mod comparison;
+mod left_out;
 pub mod plain;
 pub mod random;
 pub mod reading;
+pub mod report;
+pub mod slips;
+mod smaller;
 #[cfg(source)]
 pub mod source;
 pub mod text;

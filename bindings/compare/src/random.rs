@@ -36,6 +36,15 @@ impl Random {
         values[self.below(values.len() as u64) as usize]
     }
 
+    /// One of two places.
+    pub fn pick_mut<'a, T>(&mut self, first: &'a mut T, second: &'a mut T) -> &'a mut T {
+        if self.one_in(2) {
+            first
+        } else {
+            second
+        }
+    }
+
     /// One chance in n.
     pub fn one_in(&mut self, n: u64) -> bool {
         self.below(n) == 0

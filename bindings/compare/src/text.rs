@@ -146,3 +146,44 @@ pub fn first_difference(reading: &Outcome, other: &Outcome) -> String {
     }
     text
 }
+
+/// A call that shows a difference, in words, and how large it is.
+#[derive(Clone)]
+pub struct Shown {
+    pub size: u64,
+    pub text: String,
+}
+
+/// A difference in words.
+pub fn shown(call: &Call, expected: &Outcome, got: &Outcome) -> Shown {
+    Shown {
+        size: size(call),
+        text: format!("{call}\n      {}", first_difference(expected, got)),
+    }
+}
+
+/// How large a call is: its picture first, then how many of its lanes differ.
+pub fn size(call: &Call) -> u64 {
+    let (width, height) = call.sides();
+    let area = (width as u64).min(1 << 20) * (height as u64).min(1 << 20);
+    area * 8 + different_lanes(call)
+}
+
+/// How many lanes are not as the first.
+fn different_lanes(call: &Call) -> u64 {
+    let of = |lanes: &Lanes| lanes.map(f32::to_bits);
+    let differs = |parts: &[[u32; 4]]| (1..4).filter(|&lane| parts.iter().any(|p| p[lane] != p[0])).count() as u64;
+    let d = |d: &Directions| [of(&d.x), of(&d.y), of(&d.z)];
+    match call {
+        Call::Sample4Rgb { u, v, .. } | Call::Sample4Alpha { u, v, .. } | Call::SampleBilinearAlpha { u, v, .. } => {
+            differs(&[of(u), of(v)])
+        }
+        Call::SampleBilinearRgb { u, v, faces, .. } => differs(&[of(u), of(v), *faces]),
+        Call::CubemapUvFromNormal { directions } => differs(&d(directions)),
+        Call::SampleCubemapRgb { directions, levels, .. } => differs(&d(directions)).max(differs(&[*levels])),
+        Call::SampleCubemapTrilinearRgb { directions, levels, .. } => {
+            differs(&d(directions)).max(differs(&[of(levels)]))
+        }
+        _ => 0,
+    }
+}

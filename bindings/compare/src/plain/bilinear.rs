@@ -22,7 +22,7 @@ fn between<R: Rules>(coordinate: f32, side: u32) -> Between {
     Between {
         first: floor as i64,
         second: (floor + 1.0) as i64,
-        fraction: place - floor,
+        fraction: R::fraction(place, floor),
     }
 }
 
@@ -45,7 +45,7 @@ fn corners<R: Rules>(lent: &Lent, level: &Level, wraps: &Wraps, face: u32, u: f3
     let mut texels = [[0.0; 4]; 4];
     for (texel, (x, y)) in texels.iter_mut().zip(numbers) {
         let (x, y) = wraps.place::<R>(x, y, level.width, level.height)?;
-        *texel = read(lent, level, face, x, y)?;
+        *texel = read::<R>(lent, level, face, x, y)?;
     }
     Ok(Corners {
         texels,

@@ -13,7 +13,7 @@ fn nearest_colour<R: Rules>(lent: &Lent, direction: [f32; 3], m: u32) -> Answer<
     let on = on_face::<R>(direction);
     let x = R::nearest_place(on.u * (level.width - 1) as f32);
     let y = R::nearest_place(on.v * (level.height - 1) as f32);
-    let [r, g, b, _] = read(lent, &level, on.face, x as i64, y as i64)?;
+    let [r, g, b, _] = read::<R>(lent, &level, on.face, x as i64, y as i64)?;
     Ok([r, g, b])
 }
 

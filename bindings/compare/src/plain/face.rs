@@ -24,8 +24,8 @@ pub fn on_face<R: Rules>(direction: [f32; 3]) -> OnFace {
     let (q_u, q_v) = R::before_scaling(axis, direction);
     OnFace {
         face: if sign(major) > 0.0 { even_face } else { even_face + 1 },
-        u: 0.5 * (q_u / major.abs() + 1.0),
-        v: 0.5 * (q_v / major.abs() + 1.0),
+        u: R::scaled(q_u, major.abs()),
+        v: R::scaled(q_v, major.abs()),
     }
 }
 

@@ -7,11 +7,6 @@ use super::texel::{by_channel, level, read};
 use super::wrap::Wraps;
 use super::{Answer, Lanes, Lent, CUBEMAP};
 
-/// t = floor(u * width).
-fn texel_number(coordinate: f32, side: u32) -> i64 {
-    (coordinate * side as f32).floor() as i64
-}
-
 /// The four texels that the four lanes read, or the refusal: 1, 2, 3, 8 (a cubemap), 4, 5, 9.
 fn sample4<R: Rules>(lent: &Lent, codes: [u32; 2], u: &Lanes, v: &Lanes, steps: &Lanes) -> Answer<[[f32; 4]; 4]> {
     let wraps = Wraps::of::<R>(codes);
@@ -27,10 +22,10 @@ fn sample4<R: Rules>(lent: &Lent, codes: [u32; 2], u: &Lanes, v: &Lanes, steps: 
     let level = level::<R>(lent, level_of_steps::<R>(lent.width, lent.height, steps))?;
     let mut texels = [[0.0; 4]; 4];
     for lane in 0..4 {
-        let x = texel_number(u[lane], level.width);
-        let y = texel_number(v[lane], level.height);
+        let x = R::texel_number(u[lane], level.width as f32);
+        let y = R::texel_number(v[lane], level.height as f32);
         let (x, y) = wraps.place::<R>(x, y, level.width, level.height)?;
-        texels[lane] = read(lent, &level, 0, x, y)?;
+        texels[lane] = read::<R>(lent, &level, 0, x, y)?;
     }
     Ok(texels)
 }

@@ -32,6 +32,11 @@ pub trait Rules {
         m - 1
     }
 
+    /// Unpack: byte / 255.0.
+    fn unpack(byte: u32) -> f32 {
+        byte as f32 / 255.0
+    }
+
     /// Pack: value * 255.0, truncated.
     fn pack(value: f32) -> u32 {
         (value * 255.0) as u32
@@ -107,9 +112,19 @@ pub trait Rules {
         level.min(top)
     }
 
+    /// Nearest: t = floor(u * width).
+    fn texel_number(coordinate: f32, side: f32) -> i64 {
+        (coordinate * side).floor() as i64
+    }
+
     /// x_f = u * width - 0.5.
     fn bilinear_place(coordinate: f32, side: f32) -> f32 {
         coordinate * side - 0.5
+    }
+
+    /// fx = x_f - x0 (it may be exactly 1).
+    fn fraction(place: f32, floor: f32) -> f32 {
+        place - floor
     }
 
     /// RGB adds p00, p10, p01, p11, each times its weight product, left to right.
@@ -145,6 +160,11 @@ pub trait Rules {
             Axis::Y => (x, z * sign(y)),
             Axis::Z => (x * sign(z), -y),
         }
+    }
+
+    /// Then 0.5 * (q/major + 1).
+    fn scaled(q: f32, major: f32) -> f32 {
+        0.5 * (q / major + 1.0)
     }
 
     /// The nearest whole number, a half to the even neighbour.

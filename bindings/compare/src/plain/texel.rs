@@ -14,14 +14,9 @@ pub fn texel(bytes: [u32; 4]) -> u32 {
     bytes[0] << 24 | bytes[1] << 16 | bytes[2] << 8 | bytes[3]
 }
 
-/// Unpack: byte / 255.0.
-pub fn unpack(byte: u32) -> f32 {
-    byte as f32 / 255.0
-}
-
 /// The four channels of a texel.
-pub fn channels(texel: u32) -> [f32; 4] {
-    bytes(texel).map(unpack)
+pub fn channels<R: Rules>(texel: u32) -> [f32; 4] {
+    bytes(texel).map(R::unpack)
 }
 
 /// One level of a lent chain, as a lookup reads it.
@@ -47,13 +42,13 @@ pub fn level<R: Rules>(lent: &Lent, m: u32) -> Answer<Level> {
 }
 
 /// 9: a texel place outside its level, looked at before each read. Faces and rows follow each other.
-pub fn read(lent: &Lent, level: &Level, face: u32, x: i64, y: i64) -> Answer<[f32; 4]> {
+pub fn read<R: Rules>(lent: &Lent, level: &Level, face: u32, x: i64, y: i64) -> Answer<[f32; 4]> {
     if x < 0 || y < 0 || x >= level.width as i64 || y >= level.height as i64 {
         return Err(9);
     }
     let row = y as usize * level.width as usize;
     let place = level.start + face as usize * level.face + row + x as usize;
-    Ok(channels(lent.texels[place]))
+    Ok(channels::<R>(lent.texels[place]))
 }
 
 /// Four lanes of one texel each as four reds, four greens, four blues.

@@ -25,7 +25,8 @@ fn main() {
     println!("cargo:given=1");
 }
 
-/// The folder with the source's files, where there is one. A folder that was named must have them.
+/// The folder with the source's files, where there is one. A folder that was named must have them; an empty name leaves
+/// the source out.
 fn folder() -> Option<PathBuf> {
     let has_all = |folder: &Path| {
         WHOLE
@@ -34,6 +35,9 @@ fn folder() -> Option<PathBuf> {
             .all(|file| folder.join(file).is_file())
     };
     if let Some(named) = env::var_os("SWRASTER_SRC") {
+        if named.is_empty() {
+            return None;
+        }
         let named = fs::canonicalize(&named).unwrap_or(PathBuf::from(named));
         assert!(
             has_all(&named),
