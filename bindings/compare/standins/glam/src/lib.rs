@@ -5,9 +5,11 @@
 
 mod lanes;
 mod masks;
+mod uvec4;
 mod vec4;
 mod vectors;
 
 pub use masks::{BVec4, BVec4A};
-pub use vec4::{UVec4, Vec4};
+pub use uvec4::UVec4;
+pub use vec4::Vec4;
 pub use vectors::{Mat4, Vec2, Vec3A};

@@ -1,5 +1,6 @@
 //! Four truths, as the source's two mask types name them.
 
+use crate::lanes::{self, Truths};
 use std::ops::BitAnd;
 
 /// Four truths.
@@ -8,42 +9,41 @@ pub struct BVec4([bool; 4]);
 
 /// Four truths, as a comparison of vectors answers them.
 #[derive(Clone, Copy, PartialEq, Debug)]
-pub struct BVec4A([bool; 4]);
-
-impl BVec4A {
-    /// One lane.
-    #[inline(always)]
-    pub(crate) fn lane(&self, lane: usize) -> bool {
-        self.0[lane]
-    }
-}
+pub struct BVec4A(pub(crate) Truths);
 
 impl BitAnd for BVec4A {
     type Output = Self;
 
     #[inline(always)]
     fn bitand(self, other: Self) -> Self {
-        BVec4A(std::array::from_fn(|lane| self.0[lane] & other.0[lane]))
+        BVec4A(lanes::and(self.0, other.0))
     }
 }
 
-macro_rules! from_and_to_array {
-    ($mask:ident) => {
-        impl From<[bool; 4]> for $mask {
-            #[inline(always)]
-            fn from(lanes: [bool; 4]) -> Self {
-                $mask(lanes)
-            }
-        }
-
-        impl From<$mask> for [bool; 4] {
-            #[inline(always)]
-            fn from(mask: $mask) -> Self {
-                mask.0
-            }
-        }
-    };
+impl From<[bool; 4]> for BVec4A {
+    #[inline(always)]
+    fn from(each: [bool; 4]) -> Self {
+        BVec4A(Truths(each.map(|truth| if truth { u32::MAX } else { 0 })))
+    }
 }
 
-from_and_to_array!(BVec4);
-from_and_to_array!(BVec4A);
+impl From<BVec4A> for [bool; 4] {
+    #[inline(always)]
+    fn from(mask: BVec4A) -> Self {
+        mask.0 .0.map(|lane| lane != 0)
+    }
+}
+
+impl From<[bool; 4]> for BVec4 {
+    #[inline(always)]
+    fn from(each: [bool; 4]) -> Self {
+        BVec4(each)
+    }
+}
+
+impl From<BVec4> for [bool; 4] {
+    #[inline(always)]
+    fn from(mask: BVec4) -> Self {
+        mask.0
+    }
+}

@@ -1,7 +1,8 @@
-//! Four numbers side by side.
+//! Four f32 side by side.
 
-use crate::lanes;
+use crate::lanes::{self, Four};
 use crate::masks::BVec4A;
+use crate::uvec4::UVec4;
 use std::ops::{Add, AddAssign, Div, DivAssign, Index, Mul, MulAssign, Neg, Sub, SubAssign};
 
 /// Four f32.
@@ -29,66 +30,45 @@ impl Vec4 {
         Vec4::new(value, value, value, value)
     }
 
+    #[inline(always)]
+    fn four(self) -> Four {
+        Four([self.x, self.y, self.z, self.w])
+    }
+
+    #[inline(always)]
+    fn of(four: Four) -> Vec4 {
+        Vec4::new(four.0[0], four.0[1], four.0[2], four.0[3])
+    }
+
     /// The lanes of `a` where the mask holds, those of `b` elsewhere.
     #[inline(always)]
     pub fn select(mask: BVec4A, a: Vec4, b: Vec4) -> Vec4 {
-        let pick = |lane: usize, a: f32, b: f32| if mask.lane(lane) { a } else { b };
-        Vec4::new(
-            pick(0, a.x, b.x),
-            pick(1, a.y, b.y),
-            pick(2, a.z, b.z),
-            pick(3, a.w, b.w),
-        )
-    }
-
-    #[inline(always)]
-    fn each(self, lane: impl Fn(f32) -> f32) -> Vec4 {
-        Vec4::new(lane(self.x), lane(self.y), lane(self.z), lane(self.w))
-    }
-
-    #[inline(always)]
-    fn pairs(self, other: Vec4, lane: impl Fn(f32, f32) -> f32) -> Vec4 {
-        Vec4::new(
-            lane(self.x, other.x),
-            lane(self.y, other.y),
-            lane(self.z, other.z),
-            lane(self.w, other.w),
-        )
-    }
-
-    #[inline(always)]
-    fn holds(self, other: Vec4, lane: impl Fn(f32, f32) -> bool) -> BVec4A {
-        BVec4A::from([
-            lane(self.x, other.x),
-            lane(self.y, other.y),
-            lane(self.z, other.z),
-            lane(self.w, other.w),
-        ])
+        Vec4::of(lanes::select(mask.0, a.four(), b.four()))
     }
 
     #[inline(always)]
     pub fn abs(self) -> Vec4 {
-        self.each(f32::abs)
+        Vec4::of(lanes::abs(self.four()))
     }
 
     #[inline(always)]
     pub fn floor(self) -> Vec4 {
-        self.each(lanes::floor)
+        Vec4::of(lanes::floor(self.four()))
     }
 
     #[inline(always)]
     pub fn round(self) -> Vec4 {
-        self.each(lanes::round)
+        Vec4::of(lanes::round(self.four()))
     }
 
     #[inline(always)]
     pub fn min(self, other: Vec4) -> Vec4 {
-        self.pairs(other, lanes::min)
+        Vec4::of(lanes::min(self.four(), other.four()))
     }
 
     #[inline(always)]
     pub fn max(self, other: Vec4) -> Vec4 {
-        self.pairs(other, lanes::max)
+        Vec4::of(lanes::max(self.four(), other.four()))
     }
 
     #[inline(always)]
@@ -98,12 +78,12 @@ impl Vec4 {
 
     #[inline(always)]
     pub fn cmpge(self, other: Vec4) -> BVec4A {
-        self.holds(other, |a, b| a >= b)
+        BVec4A(lanes::ge(self.four(), other.four()))
     }
 
     #[inline(always)]
     pub fn cmpgt(self, other: Vec4) -> BVec4A {
-        self.holds(other, |a, b| a > b)
+        BVec4A(lanes::gt(self.four(), other.four()))
     }
 
     /// Each lane cast to u32, held to its range.
@@ -133,7 +113,7 @@ impl Neg for Vec4 {
 
     #[inline(always)]
     fn neg(self) -> Vec4 {
-        self.each(|x| -x)
+        Vec4::new(-self.x, -self.y, -self.z, -self.w)
     }
 }
 
@@ -144,7 +124,7 @@ macro_rules! operation {
 
             #[inline(always)]
             fn $call(self, other: Vec4) -> Vec4 {
-                self.pairs(other, |a, b| a.$call(b))
+                Vec4::of(lanes::$call(self.four(), other.four()))
             }
         }
 
@@ -153,7 +133,7 @@ macro_rules! operation {
 
             #[inline(always)]
             fn $call(self, other: f32) -> Vec4 {
-                self.each(|a| a.$call(other))
+                self.$call(Vec4::splat(other))
             }
         }
 
@@ -162,7 +142,7 @@ macro_rules! operation {
 
             #[inline(always)]
             fn $call(self, other: Vec4) -> Vec4 {
-                other.each(|b| self.$call(b))
+                Vec4::splat(self).$call(other)
             }
         }
 
@@ -202,60 +182,5 @@ impl From<std::arch::x86_64::__m128> for Vec4 {
     fn from(v: std::arch::x86_64::__m128) -> Self {
         // Both are four f32, aligned to 16 bytes.
         unsafe { std::mem::transmute(v) }
-    }
-}
-
-/// Four u32.
-#[derive(Clone, Copy, PartialEq, Eq, Debug, Default)]
-#[repr(C, align(16))]
-pub struct UVec4 {
-    pub x: u32,
-    pub y: u32,
-    pub z: u32,
-    pub w: u32,
-}
-
-impl UVec4 {
-    #[inline(always)]
-    pub const fn new(x: u32, y: u32, z: u32, w: u32) -> Self {
-        UVec4 { x, y, z, w }
-    }
-
-    #[inline(always)]
-    pub const fn splat(value: u32) -> Self {
-        UVec4::new(value, value, value, value)
-    }
-
-    #[inline(always)]
-    fn pairs(self, other: UVec4, lane: impl Fn(u32, u32) -> u32) -> UVec4 {
-        UVec4::new(
-            lane(self.x, other.x),
-            lane(self.y, other.y),
-            lane(self.z, other.z),
-            lane(self.w, other.w),
-        )
-    }
-
-    #[inline(always)]
-    pub fn min(self, other: UVec4) -> UVec4 {
-        self.pairs(other, u32::min)
-    }
-}
-
-impl Add for UVec4 {
-    type Output = UVec4;
-
-    #[inline(always)]
-    fn add(self, other: UVec4) -> UVec4 {
-        self.pairs(other, |a, b| a + b)
-    }
-}
-
-impl Mul for UVec4 {
-    type Output = UVec4;
-
-    #[inline(always)]
-    fn mul(self, other: UVec4) -> UVec4 {
-        self.pairs(other, |a, b| a * b)
     }
 }
