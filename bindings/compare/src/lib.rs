@@ -1,6 +1,7 @@
 //! The comparison: the unit through its C boundary, a plain reading of document 01 (written from the paper and not from
 //! the unit's code), and the source's own text where it is given.
 
+pub mod answers;
 pub mod bench;
 #[cfg(feature = "unit")]
 pub mod boundary;

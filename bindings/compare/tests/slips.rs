@@ -36,7 +36,9 @@ fn the_reading_agrees_with_itself() {
     comparison.hold("itself", Box::new(Reading::<Document01>::NEW), false);
     let scale = swathecold_compare::cases::Scale {
         lookups: 20_000,
+        on_one: 50,
         texels: 50_000,
+        every: 7,
         largest: false,
     };
     run_all(&mut comparison, scale, 2, |_| ());

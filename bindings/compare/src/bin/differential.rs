@@ -1,9 +1,9 @@
-//! `differential [quick|large] [SEED]`: the unit and the source held against the plain reading of document 01.
+//! `differential [small|quick|large] [SEED]`: the unit and the source held against the plain reading of document 01.
 //! Ends with status 1 where a difference was seen that is not a listed one, with 2 where it was asked wrongly.
 
 use std::process::ExitCode;
 use std::time::Instant;
-use swathecold_compare::cases::{run_all, LARGE, QUICK};
+use swathecold_compare::cases::{run_all, LARGE, QUICK, SMALL};
 use swathecold_compare::comparison::Comparison;
 use swathecold_compare::plain::Document01;
 use swathecold_compare::reading::Reading;
@@ -16,6 +16,7 @@ fn main() -> ExitCode {
     let words: Vec<String> = std::env::args().skip(1).collect();
     let scale = match words.first().map(String::as_str) {
         None | Some("quick") => QUICK,
+        Some("small") => SMALL,
         Some("large") => LARGE,
         Some(_) => return usage(),
     };
@@ -60,6 +61,6 @@ fn hold_against(comparison: &mut Comparison) {
 
 /// Says how it is asked.
 fn usage() -> ExitCode {
-    eprintln!("usage: differential [quick|large] [SEED]");
+    eprintln!("usage: differential [small|quick|large] [SEED]");
     ExitCode::from(2)
 }

@@ -5,17 +5,14 @@ use super::{Run, CODES};
 use crate::call::Call;
 use crate::plain::{top_level, Document01, Rules, CUBEMAP};
 
-/// So many calls of each lookup on one picture.
-const CALLS: u64 = 1000;
-
 /// Runs the part.
 pub fn run(run: &mut Run) {
     // The call for colours takes cubemaps and the one for alpha does not.
-    for _ in 0..run.scale.lookups / CALLS {
+    for _ in 0..run.scale.lookups / run.scale.on_one {
         let kind = run.random.pick(&[0, 1, 2, 4]);
         on_picture(run, kind);
     }
-    for _ in 0..run.scale.lookups / CALLS / 4 {
+    for _ in 0..run.scale.lookups / run.scale.on_one / 4 {
         on_picture(run, CUBEMAP);
     }
 }
@@ -25,7 +22,7 @@ fn on_picture(run: &mut Run, kind: u32) {
     let (width, height) = sides(&mut run.random);
     let owned = run.picture(kind, width, height);
     let picture = owned.lend();
-    for _ in 0..CALLS {
+    for _ in 0..run.scale.on_one {
         let level = run.random.below(top_level(width, height) as u64 + 1) as u32;
         let u = coordinates(&mut run.random, Document01::level_side(width, level));
         let v = coordinates(&mut run.random, Document01::level_side(height, level));

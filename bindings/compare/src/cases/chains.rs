@@ -42,8 +42,8 @@ fn drawn_chain(run: &mut Run, kind: u32, width: u32, height: u32) {
 
 /// Every pair of sides from 1 to 40.
 fn small_sides(run: &mut Run, kind: u32) {
-    for width in 1..=40 {
-        for height in 1..=40 {
+    for width in (1..=40).step_by(run.scale.every.min(9)) {
+        for height in (1..=40).step_by(run.scale.every.min(7)) {
             drawn_chain(run, kind, width, height);
         }
     }
@@ -61,7 +61,7 @@ fn long_sides(run: &mut Run, kind: u32) {
 
 /// Every byte as a flat picture: the smallest, and one of 13 levels.
 fn flat_bytes(run: &mut Run, kind: u32) {
-    for byte in 0..256u32 {
+    for byte in (0..256u32).step_by(run.scale.every) {
         for (width, height) in [(2, 1), (4096, 1)] {
             let level_0 = level_texels::<Document01>(kind, width, height, 0) as usize;
             chain(run, kind, width, height, vec![byte * 0x0101_0101; level_0], 0);
@@ -71,7 +71,7 @@ fn flat_bytes(run: &mut Run, kind: u32) {
 
 /// Every pair of bytes in one picture of 512 by 512: as (a, b, a, b), (a, b, b, b) and (a, b, drawn, drawn).
 fn pairs_of_bytes(run: &mut Run, kind: u32) {
-    if kind == CUBEMAP {
+    if kind == CUBEMAP || run.scale.every > 1 {
         return;
     }
     let side = 512;

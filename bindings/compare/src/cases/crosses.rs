@@ -6,8 +6,8 @@ use crate::call::Call;
 
 /// Runs the part.
 pub fn run(run: &mut Run) {
-    for width in 0..=45 {
-        for height in 0..=34 {
+    for width in (0..=45).step_by(run.scale.every.min(7)) {
+        for height in (0..=34).step_by(run.scale.every.min(5)) {
             cross(run, width, height);
         }
     }

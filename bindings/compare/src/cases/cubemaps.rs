@@ -6,12 +6,9 @@ use super::Run;
 use crate::call::Call;
 use crate::plain::{top_level, Document01, Rules, CUBEMAP};
 
-/// So many calls of each lookup on one cubemap.
-const CALLS: u64 = 1000;
-
 /// Runs the part.
 pub fn run(run: &mut Run) {
-    for _ in 0..run.scale.lookups / CALLS {
+    for _ in 0..run.scale.lookups / run.scale.on_one {
         let (width, height) = cubemap_sides(run);
         on_cubemap(run, width, height);
     }
@@ -34,7 +31,7 @@ fn on_cubemap(run: &mut Run, width: u32, height: u32) {
     let top = top_level(width, height);
     let owned = run.picture(CUBEMAP, width, height);
     let picture = owned.lend();
-    for _ in 0..CALLS {
+    for _ in 0..run.scale.on_one {
         let levels: [u32; 4] = std::array::from_fn(|_| match run.random.below(16) {
             0 => u32::MAX,
             1 => top + run.random.below(3) as u32,

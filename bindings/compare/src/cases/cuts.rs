@@ -38,8 +38,8 @@ fn every_cut(run: &mut Run, width: u32, height: u32) {
         texels: &texels,
     };
     for order in 0..=4 {
-        for corner_x in 0..=width {
-            for corner_y in 0..=height {
+        for corner_x in (0..=width).step_by(run.scale.every.min(3)) {
+            for corner_y in (0..=height).step_by(run.scale.every.min(5)) {
                 for cut_width in 0..=width + 1 {
                     for cut_height in 0..=height + 1 {
                         let exact = (cut_width * cut_height) as usize;

@@ -8,7 +8,7 @@ use crate::call::Call;
 pub fn run(run: &mut Run) {
     for width in edge_sides() {
         for height in edge_sides() {
-            for _ in 0..20 {
+            for _ in 0..20usize.div_ceil(run.scale.every) {
                 level(run, width, height);
             }
         }

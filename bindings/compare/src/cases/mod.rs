@@ -4,16 +4,16 @@ mod bilinear;
 mod chains;
 mod crosses;
 mod cubemaps;
-mod curve;
+pub mod curve;
 mod cuts;
 mod directions;
 mod levels;
 mod nearest;
-mod refusals;
+pub mod refusals;
 mod sizes;
-mod spoil;
+pub mod spoil;
 mod texels;
-mod values;
+pub mod values;
 mod wraps;
 
 use crate::call::Call;
@@ -25,25 +25,41 @@ use crate::unit::Picture;
 /// How much is drawn beside the edges.
 #[derive(Clone, Copy)]
 pub struct Scale {
-    /// Calls of each lookup.
+    /// Calls of each lookup, and so many of them on one picture.
     pub lookups: u64,
+    pub on_one: u64,
     /// Texels of each kind.
     pub texels: u64,
+    /// Of edges that are many, every so-manieth is taken.
+    pub every: usize,
     /// Pictures of the largest sides both ways.
     pub largest: bool,
 }
 
+/// For a run under a checker of memory, which takes fifty times as long.
+pub const SMALL: Scale = Scale {
+    lookups: 10_000,
+    on_one: 50,
+    texels: 20_000,
+    every: 61,
+    largest: false,
+};
+
 /// Under a minute.
 pub const QUICK: Scale = Scale {
     lookups: 1_000_000,
+    on_one: 1000,
     texels: 2_000_000,
+    every: 1,
     largest: false,
 };
 
 /// At least 10 million calls of each lookup and 10 million texels of each kind.
 pub const LARGE: Scale = Scale {
     lookups: 10_000_000,
+    on_one: 1000,
     texels: 10_000_000,
+    every: 1,
     largest: true,
 };
 

@@ -4,7 +4,7 @@ use super::spoil::{accepted, TARGET};
 use super::Run;
 
 /// The refusals that each call can give, by its number; the second 3 of cut and cross is that of the target.
-const OF_CALL: [&[u32]; 13] = [
+pub const OF_CALL: [&[u32]; 13] = [
     &[1, 2, 6],
     &[1, 2, 3],
     &[10, 3, TARGET],
@@ -31,7 +31,7 @@ pub fn run(run: &mut Run) {
                 .filter(|i| choice >> i & 1 == 1)
                 .map(|i| refusals[i])
                 .collect();
-            for _ in 0..TIMES {
+            for _ in 0..TIMES.div_ceil(run.scale.every as u64) {
                 once(run, call, &chosen);
             }
         }

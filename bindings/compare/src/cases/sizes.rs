@@ -20,8 +20,8 @@ fn levels(width: u32, height: u32) -> Vec<u32> {
 fn sizes(run: &mut Run) {
     let sides: Vec<u32> = edge_sides().into_iter().chain([0, 4097, 65536, u32::MAX]).collect();
     for kind in [0, 1, 2, 3, 4, 5, u32::MAX] {
-        for &width in &sides {
-            for &height in &sides {
+        for &width in sides.iter().step_by(run.scale.every.min(7)) {
+            for &height in sides.iter().step_by(run.scale.every.min(5)) {
                 for level in levels(width, height) {
                     run.call(&Call::LevelSizes {
                         kind,
@@ -40,7 +40,7 @@ fn views(run: &mut Run) {
     let mut sides: Vec<(u32, u32)> = (1..=9).flat_map(|w| (1..=9).map(move |h| (w, h))).collect();
     sides.extend([(40, 39), (4096, 1), (1, 4095), (4095, 2)]);
     for kind in 0..=5 {
-        for &(width, height) in &sides {
+        for &(width, height) in sides.iter().step_by(run.scale.every) {
             let exact = chain_texels::<Document01>(kind, width, height) as usize;
             let texels = vec![0; exact + 1];
             for length in [0, exact - 1, exact, exact + 1] {

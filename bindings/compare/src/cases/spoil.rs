@@ -5,7 +5,7 @@ use super::texels::bytes;
 use super::values::{coordinates, direction, fractional_level, steps};
 use super::CODES;
 use crate::call::Call;
-use crate::plain::{chain_texels, top_level, Cut, Document01, Lanes, Lent, CUBEMAP};
+use crate::plain::{chain_texels, top_level, Cut, Document01, Lanes, Lent, Rules, CUBEMAP};
 use crate::random::{ulps, Random};
 use crate::unit::{Directions, Picture};
 
@@ -33,33 +33,52 @@ pub struct Arguments {
     target: Vec<u32>,
 }
 
-/// Accepted arguments for the call of this number.
+/// Accepted arguments for the call of this number, with a small picture of a kind that it takes.
 pub fn accepted(random: &mut Random, call: usize, number: u64) -> Arguments {
-    let takes_cubemaps_only = call >= 11;
-    let refuses_cubemaps = [3, 6, 7, 9].contains(&call);
-    let kind = match (takes_cubemaps_only, refuses_cubemaps) {
-        (true, _) => CUBEMAP,
-        (_, true) => random.pick(&[0, 1, 2, 4]),
-        _ => random.below(5) as u32,
-    };
+    let kind = taken_kind(random, call);
     let is_cross = call == 2;
     let least = if is_cross { 4 } else { 1 };
     let (width, height) = (random.between(least, 12) as u32, random.between(least, 12) as u32);
+    of_picture(random, number, kind, width, height)
+}
+
+/// A kind that the call takes.
+pub fn taken_kind(random: &mut Random, call: usize) -> u32 {
+    match call {
+        11 | 12 => CUBEMAP,
+        3 | 6 | 7 | 9 => random.pick(&[0, 1, 2, 4]),
+        _ => random.below(5) as u32,
+    }
+}
+
+/// Accepted arguments for a picture that is accepted itself.
+pub fn of_picture(random: &mut Random, number: u64, kind: u32, width: u32, height: u32) -> Arguments {
     let top = top_level(width, height);
+    let level = random.below(top as u64 + 1) as u32;
+    let (level_width, level_height) = (
+        Document01::level_side(width, level),
+        Document01::level_side(height, level),
+    );
     Arguments {
         kind,
         width,
         height,
         texels: Vec::new(),
         number,
-        level: random.below(top as u64 + 1) as u32,
+        level,
         faces: std::array::from_fn(|_| if kind == CUBEMAP { random.below(6) as u32 } else { 0 }),
         codes: [random.pick(&CODES), random.pick(&CODES)],
-        u: coordinates(random, width),
-        v: coordinates(random, height),
+        u: coordinates(random, level_width),
+        v: coordinates(random, level_height),
         steps: steps(random, width, height),
-        directions: of(std::array::from_fn(|_| direction(random, width, height))),
-        levels: std::array::from_fn(|_| random.below(top as u64 + 2) as u32),
+        directions: of(std::array::from_fn(|_| direction(random, level_width, level_height))),
+        levels: std::array::from_fn(|_| {
+            if random.one_in(2) {
+                level
+            } else {
+                random.below(top as u64 + 2) as u32
+            }
+        }),
         fractions: std::array::from_fn(|_| fractional_level(random, top)),
         cut: Cut {
             order: 0,
@@ -175,7 +194,8 @@ impl Arguments {
 
     /// Buffers for the arguments as they are now: exact or longer, or shorter where refusal 3 is to hold.
     pub fn lend(&mut self, random: &mut Random, call: usize, short: bool, target_short: bool) {
-        let held = |side: u32| side.clamp(1, 20);
+        // No buffer is made for a side that is refused.
+        let held = |side: u32| if side == 0 || side > 4096 { 20 } else { side };
         let (width, height) = (held(self.width), held(self.height));
         let whole = if call == 3 {
             width as usize * height as usize * if self.kind == CUBEMAP { 6 } else { 1 }
@@ -192,6 +212,18 @@ impl Arguments {
             held(self.cut.width) as usize * held(self.cut.height) as usize
         };
         self.target = vec![0x0BAD_F00D; shortened(random, written.max(1), target_short)];
+    }
+
+    /// Other texels and bytes in the buffers, as many as before; the one that is written holds `before` everywhere.
+    pub fn refill(&mut self, texels: impl Fn(usize) -> Vec<u32>, bytes: impl Fn(usize) -> Vec<u8>, before: u32) {
+        self.texels = texels(self.texels.len());
+        self.bytes = bytes(self.bytes.len());
+        self.target.fill(before);
+    }
+
+    /// The cut in the place of the whole last row.
+    pub fn set_cut(&mut self, cut: Cut) {
+        self.cut = cut;
     }
 
     /// The call of this number with these arguments.

@@ -20,7 +20,7 @@ pub fn run(run: &mut Run) {
 
 /// Around each multiple from -2048 to 2048 times the side; of the two longest sides around every 16th.
 fn around_multiples(run: &mut Run, picture: &Owned, side: u32, upright: bool, code: u32) {
-    let step = if side > 40 { 16 } else { 1 };
+    let step = if side > 40 { 16 } else { 1 } * run.scale.every;
     for multiple in (-2048i64..=2048).step_by(step) {
         for places in [-1, 0, 1] {
             let at = |t: i64| ulps(t as f32 / side as f32, places).clamp(-2048.0, 2048.0);
