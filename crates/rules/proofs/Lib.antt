@@ -1,4 +1,9 @@
 pub mod Grid
 pub mod Sides
+pub mod Bounds
 pub mod Chain
 pub mod Cut
+pub mod Laws
+pub mod Refusing
+pub mod RefusingCuts
+pub mod RefusingLookups
