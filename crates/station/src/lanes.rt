@@ -1,5 +1,7 @@
 // Four numbers behind a pointer, as lanes.
-use rules::{Directions, Lanes, Wholes};
+use rules::Directions;
+use rules::Lanes;
+use rules::Wholes;
 ghost use mathlib.Core.Path.{_≡_};
 ghost use Rattle.station.specs.Written.{toLanes, toWholes, toDirections};
 

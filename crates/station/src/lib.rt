@@ -1,5 +1,5 @@
 // The C boundary: what a station links. Each export is one call of the unit: numbers in, a refusal number out, 0 where it was done.
-mod lanes;
-// mod parts;
+pub mod lanes;
+pub mod parts;
 // mod samples;
-mod written;
+pub mod written;

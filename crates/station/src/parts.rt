@@ -1,6 +1,8 @@
 // Sizes, the chain, the view, the cut and the cross, as C calls them.
-use crate::written::{filled_out, sizes_out};
-use rules::{Pair, Sizes};
+use crate::written::filled_out;
+use crate::written::sizes_out;
+use rules::Pair;
+use rules::Sizes;
 ghost use mathlib.Core.Path.{_≡_};
 ghost use lib.ListN.{length};
 ghost use Rattle.rules.specs.Refusals.{viewRefusal};

@@ -1,5 +1,11 @@
 // An answer handed out: its values through the out parameters, and 0; or its refusal number, and nothing written.
-use rules::{Alpha, Colour, Facing, Filled, Lanes, Level, Sizes};
+use rules::Alpha;
+use rules::Colour;
+use rules::Facing;
+use rules::Filled;
+use rules::Lanes;
+use rules::Level;
+use rules::Sizes;
 ghost use mathlib.Core.Path.{_≡_};
 ghost use Rattle.station.specs.Written.{sizesNumber, sizesWritten, filledNumber, filledWritten, levelNumber, levelWritten, colourNumber, colourWritten, alphaNumber, alphaWritten, facingNumber, uvWritten, facesWritten};
 
