@@ -3,9 +3,8 @@ use crate::refusals::chain_refusal;
 use crate::refusals::face_refusal;
 use crate::refusals::level_refusal;
 use crate::refusals::or_else;
-use crate::sizes::faces_of;
-use crate::sizes::side_at;
-use crate::sizes::start_of;
+use crate::sizes::level_sizes;
+use rules::Sizes;
 ghost use mathlib.Core.Path.{_≡_};
 ghost use lib.ListN.{length};
 ghost use Rattle.rules.specs.Refusals.{viewRefusal};
@@ -42,8 +41,17 @@ pub fn level_view<'a>(
     if level_view_refusal(kind, width, height, texels, level, face) != 0 {
         return &texels[0..0];
     }
-    let size = (side_at(height, level) as usize) * (side_at(width, level) as usize);
-    let start = start_of(faces_of(kind), width, height, level) + (face as usize) * size;
-    let end = start + size;
-    &texels[start..end]
+    let Sizes::Level {
+        start,
+        width: w,
+        height: h,
+        total: _,
+    } = level_sizes(kind, width, height, level)
+    else {
+        return &texels[0..0];
+    };
+    let size = (h as usize) * (w as usize);
+    let from = start + (face as usize) * size;
+    let end = from + size;
+    &texels[from..end]
 }
