@@ -1,23 +1,16 @@
 use borrow.Author.Needs.{needs}
 use Rattle.station.proofs.lanes.directions.Statement.{statement}
 use Rattle.station.proofs.lanes.directions.Tie as tie
-use Rattle.station.proofs.lanes.directions.Reads as reads
-use Rattle.station.proofs.lanes.directions.Lts as lts
-use Rattle.station.proofs.lanes.lanes.Reads as lanes-reads
 
--- src/lanes.rt:32:12
 lanes-requires : tie.Need-lanes-requires
 lanes-requires c κs = search needs
 
--- src/lanes.rt:33:12
 lanes-requires-2 : tie.Need-lanes-requires-2
 lanes-requires-2 c κs = search needs
 
--- src/lanes.rt:34:12
 lanes-requires-3 : tie.Need-lanes-requires-3
 lanes-requires-3 c κs = search needs
 
--- src/lanes.rt:28:1
 returns : tie.Need-returns
 returns c = rw (c .before .before .lanes .ensures, c .before .lanes2 .ensures, c .lanes3 .ensures)
 

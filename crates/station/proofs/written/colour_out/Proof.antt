@@ -2,22 +2,16 @@ use mathlib.Core.Path.{refl}
 use borrow.Author.Needs.{needs}
 use Rattle.station.proofs.written.colour_out.Statement.{statement}
 use Rattle.station.proofs.written.colour_out.Tie as tie
-use Rattle.station.proofs.written.colour_out.Reads as reads
-use Rattle.station.proofs.written.colour_out.Lts as lts
 
--- src/written.rt:55:21
 enum-known-answer : tie.Need-enum-known-answer
 enum-known-answer c = search needs
 
--- src/written.rt:62:25
 enum-known-answer-2 : tie.Need-enum-known-answer-2
 enum-known-answer-2 c = search needs
 
--- src/written.rt:50:1
 returns : tie.Need-returns
 returns c = rw (c .before .before .before .before .before .answer .given .1) (refl, refl)
 
--- src/written.rt:50:1
 returns-2 : tie.Need-returns-2
 returns-2 c = search needs
 

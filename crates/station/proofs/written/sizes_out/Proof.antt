@@ -2,30 +2,22 @@ use mathlib.Core.Path.{refl}
 use borrow.Author.Needs.{needs}
 use Rattle.station.proofs.written.sizes_out.Statement.{statement}
 use Rattle.station.proofs.written.sizes_out.Tie as tie
-use Rattle.station.proofs.written.sizes_out.Reads as reads
-use Rattle.station.proofs.written.sizes_out.Lts as lts
 
--- src/written.rt:12:13
 enum-known-answer : tie.Need-enum-known-answer
 enum-known-answer c = search needs
 
--- src/written.rt:17:37
 cast-t10 : tie.Need-cast-t10
 cast-t10 c = search needs
 
--- src/written.rt:17:51
 cast-t11 : tie.Need-cast-t11
 cast-t11 c = search needs
 
--- src/written.rt:20:24
 enum-known-answer-2 : tie.Need-enum-known-answer-2
 enum-known-answer-2 c = search needs
 
--- src/written.rt:6:1
 returns : tie.Need-returns
 returns c = rw (c .before .before .answer .given .1) (refl, refl)
 
--- src/written.rt:6:1
 returns-2 : tie.Need-returns-2
 returns-2 c = search needs
 
