@@ -1,3 +1,4 @@
+-- `kinds::metallic::byte` meets its contract: the root of a value in 0 to 1 lies there, so it packs. Assumes nothing.
 use borrow.Author.Needs.{needs}
 use Rattle.rules.specs.Floats.{Between, zero32, one32}
 use Rattle.rules.specs.Reducing.{roughByte}

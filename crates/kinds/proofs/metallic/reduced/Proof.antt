@@ -1,3 +1,4 @@
+-- `kinds::metallic::reduced` meets its contract. Assumes nothing.
 use Rattle.rules.specs.Reducing.{metallicOf}
 use borrow.Author.Needs.{needs}
 use Rattle.kinds.proofs.metallic.reduced.Statement.{statement}

@@ -1,3 +1,4 @@
+-- `kinds::srgb::by_tables` meets its contract. Assumes nothing.
 use Rattle.rules.specs.Reducing.{srgbOf}
 use borrow.Author.Needs.{needs}
 use Rattle.kinds.proofs.srgb.by_tables.Statement.{statement}

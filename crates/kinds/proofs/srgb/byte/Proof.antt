@@ -1,3 +1,4 @@
+-- `kinds::srgb::byte` meets its contract: the mean of T values lies in 0 to 1, where the inverse is given. Assumes nothing.
 use borrow.Author.Needs.{needs}
 use Rattle.rules.specs.Floats.{Between, zero32, one32}
 use Rattle.rules.specs.Reducing.{srgbByte}
