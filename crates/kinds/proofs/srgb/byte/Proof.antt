@@ -1,10 +1,11 @@
+-- `kinds::srgb::byte` meets its contract: the mean of T values lies in 0 to 1, where the inverse is given. Assumes nothing.
 use borrow.Author.Needs.{needs}
 use Rattle.rules.specs.Floats.{Between, zero32, one32}
 use Rattle.rules.specs.Reducing.{srgbByte}
 use Rattle.texel.proofs.Unit.{mean-in}
 use Rattle.texel.proofs.Inverse.{curve-in}
-use Rattle.kinds.proofs.srgb.colour.Statement.{statement}
-use Rattle.kinds.proofs.srgb.colour.Tie as tie
+use Rattle.kinds.proofs.srgb.byte.Statement.{statement}
+use Rattle.kinds.proofs.srgb.byte.Tie as tie
 
 decode-requires : tie.Need-decode-requires
 decode-requires c κs = search needs
@@ -38,8 +39,8 @@ returns : tie.Need-returns
 unfolding srgbByte
 returns c = cc
 
-pub colour-spec : {M : Type 1} → statement M
-colour-spec =
+pub byte-spec : {M : Type 1} → statement M
+byte-spec =
     tie.close
     (tie.spec
     decode-requires

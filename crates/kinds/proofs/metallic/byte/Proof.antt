@@ -1,10 +1,11 @@
+-- `kinds::metallic::byte` meets its contract: the root of a value in 0 to 1 lies there, so it packs. Assumes nothing.
 use borrow.Author.Needs.{needs}
 use Rattle.rules.specs.Floats.{Between, zero32, one32}
 use Rattle.rules.specs.Reducing.{roughByte}
 use Rattle.texel.proofs.Unit.{unpack-in, mean-in, product-in}
 use Rattle.texel.proofs.RootRule.{widen, root-in}
-use Rattle.kinds.proofs.metallic.rough.Statement.{statement}
-use Rattle.kinds.proofs.metallic.rough.Tie as tie
+use Rattle.kinds.proofs.metallic.byte.Statement.{statement}
+use Rattle.kinds.proofs.metallic.byte.Tie as tie
 
 square-requires : tie.Need-square-requires
 square-requires c κs = search needs
@@ -43,8 +44,8 @@ returns : tie.Need-returns
 unfolding roughByte
 returns c = cc
 
-pub rough-spec : {M : Type 1} → statement M
-rough-spec =
+pub byte-spec : {M : Type 1} → statement M
+byte-spec =
     tie.close
     (tie.spec
     square-requires
