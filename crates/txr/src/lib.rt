@@ -1,0 +1,2 @@
+// A TXR file, parsed, and its levels listed.
+mod lines;

@@ -1,0 +1,1 @@
+// A level as a line of text.
