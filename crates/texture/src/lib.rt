@@ -1,0 +1,3 @@
+// The texture unit: levels, chains, views and cuts of a picture that lies in a lent buffer.
+pub mod refusals;
+pub mod sizes;
