@@ -41,14 +41,18 @@ levelIn b = tab (sizeIn b) (texelIn b)
 unfoldable pub headerRefusal : List ℕ → ℕ
 headerRefusal b = unless (leb 10 (length b) && marked b) 12
 
--- length not exact, 12
-unfoldable pub lengthRefusal : List ℕ → ℕ
-lengthRefusal b = unless (eqb (length b) (10 + 4 * sizeIn b)) 12
-
 -- the longest chain that is listed
 abbrev pub longest : ℕ
 longest = 16384
 
--- 12; 1; 2; a chain above 16,384 texels, 3; 12
+-- 1; 2; a chain above 16,384 texels, 3
+abbrev pub levelsRefusal : List ℕ → ℕ
+levelsRefusal b = chainRefusal (kindIn b) (widthIn b) (heightIn b) longest
+
+-- length not exact, 12
+unfoldable pub lengthRefusal : List ℕ → ℕ
+lengthRefusal b = unless (eqb (length b) (10 + 4 * sizeIn b)) 12
+
+-- 12; 1; 2; 3; 12
 unfoldable pub fileRefusal : List ℕ → ℕ
-fileRefusal b = headerRefusal b orElse chainRefusal (kindIn b) (widthIn b) (heightIn b) longest orElse lengthRefusal b
+fileRefusal b = headerRefusal b orElse levelsRefusal b orElse lengthRefusal b
