@@ -11,8 +11,8 @@ use Rattle.rules.specs.Pictures.{chainOf}
 use Rattle.rules.specs.Refusals.{_orElse_, kindRefusal, sidesRefusal, bufferRefusal, pictureRefusal, chainRefusal}
 use Rattle.rules.specs.Answers.{answer}
 use Rattle.txr.specs.File.{wordAt, marked, texelIn, levelIn, headerRefusal, lengthRefusal, fileRefusal}
-use Rattle.txr.specs.Digits.{digitOf, digitsOf, places, decimalOf, hexOf}
-use Rattle.txr.specs.Listing.{lineOf, levelLine, levelLines, refusedLine, listingOf}
+use Rattle.txr.specs.Digits.{digitOf, digitsOf, placesIn, placesOf, decimalOf, hexOf}
+use Rattle.txr.specs.Listing.{fieldOf, lineOf, levelLine, levelLines, refusedLine, listingOf}
 
 -- a Linear picture, 2 by 1
 abbrev example : List ℕ
@@ -27,5 +27,5 @@ listed =
     ∷ 0x31 ∷ 0x20 ∷ 0x31 ∷ 0x20 ∷ 0x31 ∷ 0x20 ∷ 0x37 ∷ 0x46 ∷ 0x37 ∷ 0x46 ∷ 0x30 ∷ 0x30 ∷ 0x46 ∷ 0x46 ∷ 0x0A ∷ []
 
 pub example-listed : listingOf example ≡ listed
-unfolding facesOf rgba sideAt halvings log2 top sizeAt start count tab grid texel quad next level chain eachOf meanByte linearOf srgbOf normalOf metallicOf reduceOf chainOf _orElse_ kindRefusal sidesRefusal bufferRefusal pictureRefusal chainRefusal answer wordAt marked texelIn levelIn headerRefusal lengthRefusal fileRefusal digitOf digitsOf places decimalOf hexOf lineOf levelLine levelLines refusedLine listingOf add mul div ofBits ofInt toUnsigned
+unfolding facesOf rgba sideAt halvings log2 top sizeAt start count tab grid texel quad next level chain eachOf meanByte linearOf srgbOf normalOf metallicOf reduceOf chainOf _orElse_ kindRefusal sidesRefusal bufferRefusal pictureRefusal chainRefusal answer wordAt marked texelIn levelIn headerRefusal lengthRefusal fileRefusal digitOf digitsOf placesIn placesOf decimalOf hexOf fieldOf lineOf levelLine levelLines refusedLine listingOf add mul div ofBits ofInt toUnsigned
 example-listed = refl

@@ -1,2 +1,4 @@
 pub mod Example
 pub mod Reading
+pub mod Writings
+pub mod Spelling

@@ -14,14 +14,16 @@ digitsOf base zero n = []
 digitsOf base (suc k) n = digitsOf base k (n / base) ++ (digitOf (n % base) ∷ [])
 
 -- how many decimal digits n has. The first argument bounds the divisions
-unfoldable pub places : ℕ → ℕ → ℕ
-places zero n = 1
-places (suc k) n = cond (ltb n 10) 1 (suc (places k (n / 10)))
+unfoldable pub placesIn : ℕ → ℕ → ℕ
+placesIn zero n = 1
+placesIn (suc k) n = cond (ltb n 10) 1 (suc (placesIn k (n / 10)))
+
+unfoldable pub placesOf : ℕ → ℕ
+placesOf n = placesIn n n
 
 -- a number in decimal
 unfoldable pub decimalOf : ℕ → List ℕ
-unfolding places
-decimalOf n = digitsOf 10 (places n n) n
+decimalOf n = digitsOf 10 (placesOf n) n
 
 -- a texel as eight hex digits
 unfoldable pub hexOf : ℕ → List ℕ

@@ -9,15 +9,16 @@ use Rattle.rules.specs.Answers.{answer}
 use Rattle.txr.specs.File.{kindIn, widthIn, heightIn, levelIn, fileRefusal}
 use Rattle.txr.specs.Digits.{decimalOf, hexOf}
 
-abbrev pub space : List ℕ
-space = 32 ∷ []
+-- a number and a space
+unfoldable pub fieldOf : ℕ → List ℕ
+fieldOf n = decimalOf n ++ (32 ∷ [])
 
 abbrev pub newline : List ℕ
 newline = 10 ∷ []
 
 -- a level's number, width, height and first texel
 unfoldable pub lineOf : ℕ → ℕ → ℕ → ℕ → List ℕ
-lineOf m w h t = decimalOf m ++ (space ++ (decimalOf w ++ (space ++ (decimalOf h ++ (space ++ (hexOf t ++ newline))))))
+lineOf m w h t = fieldOf m ++ (fieldOf w ++ (fieldOf h ++ (hexOf t ++ newline)))
 
 -- the line of level m in the chain of a picture of a kind
 unfoldable pub levelLine : ℕ → ℕ → ℕ → List ℕ → ℕ → List ℕ

@@ -1,2 +1,3 @@
 // A TXR file, parsed, and its levels listed.
+mod digits;
 mod lines;
