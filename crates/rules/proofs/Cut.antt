@@ -1,14 +1,14 @@
 -- The first k levels of an aligned cut are the matching cuts of the whole picture's levels. Assumes nothing.
-use mathlib.Core.Path.{_≡_, refl, sym, ap, _∙_}
+use mathlib.Core.Path.{_≡_, sym, ap, _∙_}
 use mathlib.Core.List.{List}
 use Prim.Native.Nat.{ℕ, zero, suc, _+_, _-_, _*_, _/_, _%_, _^_, _≤_, _<_, min}
 use native.Mathlib.Nat.{pow-zero, div-one, mod-eq-of-lt}
 use native.Mathlib.Decide.{decLe}
 use native.Mathlib.Numerals.{one-add, add-one}
 use native.Mathlib.Omega.{arith}
-use lib.Pow.{pow-pos, mod-pow-add, shr-shr}
+use lib.Pow.{mod-pow-add, shr-shr}
 use Rattle.rules.specs.Sizes.{sideAt, half, top}
-use Rattle.rules.specs.Levels.{grid, texel, quad, next, level}
+use Rattle.rules.specs.Levels.{texel, quad, next, level}
 use Rattle.rules.specs.Cuts.{cut, CutAt}
 use Rattle.rules.proofs.Grid.{texel-grid, grid-ext}
 use Rattle.rules.proofs.Sides.{side-half, side-zero, le-top}

@@ -1,13 +1,12 @@
 -- What a refusal number says: 0 exactly when the facts that the call needs hold, and else the first number that is given.
 -- For a part X of the arguments: `X-taken`, its number is 0 where the facts hold; `X-facts`, they hold where it is 0;
 -- `X-refused`, its number where they do not. Assumes nothing.
-use mathlib.Core.Path.{_≡_, refl, sym, ap, _∙_}
-use mathlib.Core.Bool.{Bool, true, false, not, cond, _&&_, false≢true}
-use Prim.Native.Nat.{ℕ, zero, suc, _+_, _*_, _≤_, _<_, suc-le-suc}
+use mathlib.Core.Path.{_≡_, refl, sym, _∙_}
+use mathlib.Core.Bool.{Bool, true, false, not, _&&_, false≢true}
+use Prim.Native.Nat.{ℕ, zero, suc, _≤_, _<_, suc-le-suc}
 use native.Mathlib.Omega.{arith}
-use native.Mathlib.Decide.{decLe}
-use borrow.Author.Tests.{leb-true, ltb-true, eqb-true, eqb-false, not-true, le-leb, lt-leb, lt-ltb, le-ltb, eq-eqb, ne-eqb}
-use lib.Dec.{leb, ltb, eqb}
+use borrow.Author.Tests.{leb-true, eqb-true, eqb-false, not-true, le-leb, lt-leb, eq-eqb, ne-eqb}
+use lib.Dec.{leb, eqb}
 use Rattle.rules.specs.Kinds.{cubemap, facesOf}
 use Rattle.rules.specs.Sizes.{top, count}
 use Rattle.rules.specs.Refusals.{_orElse_, unless, kindRefusal, sideTaken, sidesRefusal, bufferRefusal, levelRefusal, noCubemapRefusal, onlyCubemapRefusal, faceRefusal, pictureRefusal, chainRefusal, levelSizesRefusal, viewRefusal}
@@ -105,10 +104,10 @@ side-test s p q = and-true (leb 1 s) (leb s 4096) (le-leb 1 s p) (le-leb s 4096 
 side-fact : (s : ℕ) → sideTaken s ≡ true → (0 < s) × (s ≤ 4096)
 side-fact s e = let b = and-both (leb 1 s) (leb s 4096) e in (leb-true 1 s (b .0), leb-true s 4096 (b .1))
 
-sides-test : (w h : ℕ) → Sides w h → (sideTaken w && sideTaken h) ≡ true
+pub sides-test : (w h : ℕ) → Sides w h → (sideTaken w && sideTaken h) ≡ true
 sides-test w h s = and-true (sideTaken w) (sideTaken h) (side-test w (s .some-w) (s .most-w)) (side-test h (s .some-h) (s .most-h))
 
-sides-fact : (w h : ℕ) → (sideTaken w && sideTaken h) ≡ true → Sides w h
+pub sides-fact : (w h : ℕ) → (sideTaken w && sideTaken h) ≡ true → Sides w h
 sides-fact w h e =
     let b = and-both (sideTaken w) (sideTaken h) e in
     let p = side-fact w (b .0) in

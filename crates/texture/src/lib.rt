@@ -1,3 +1,4 @@
 // The texture unit: levels, chains, views and cuts of a picture that lies in a lent buffer.
 pub mod refusals;
 pub mod sizes;
+pub mod view;

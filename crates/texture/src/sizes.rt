@@ -1,8 +1,14 @@
 // Sides, level numbers, and where each level starts. A level's start is found in at most thirteen steps.
+use crate::refusals::level_refusal;
+use crate::refusals::or_else;
+use crate::refusals::picture_refusal;
+use rules::Sizes;
 ghost use mathlib.Core.Path.{_≡_};
-ghost use Prim.Native.Nat.{_<_, _≤_, _*_, max};
+ghost use Prim.Native.Nat.{_<_, _≤_, max};
 ghost use Rattle.rules.specs.Kinds.{facesOf};
 ghost use Rattle.rules.specs.Sizes.{sideAt, log2, top, sizeAt, start, count};
+ghost use Rattle.rules.specs.Refusals.{levelSizesRefusal};
+ghost use Rattle.rules.specs.Answers.{levelSizesAnswer};
 
 // Six faces for a cubemap, one for every other kind.
 pub fn faces_of(kind: u32) -> usize
@@ -68,8 +74,35 @@ pub fn start_of(faces: usize, width: u32, height: u32, level: u32) -> usize
 
 // The whole chain's texels.
 pub fn count_of(faces: usize, width: u32, height: u32) -> usize
-    requires { ⌜ (faces ≤ 6) × (width ≤ 4096) × (height ≤ 4096) ⌝ }
+    requires { ⌜ (faces ≤ 6) × (0 < width) × (width ≤ 4096) × (height ≤ 4096) ⌝ }
     ensures { λ r. ⌜ r ≡ count faces width height ⌝ }
 {
     start_of(faces, width, height, top_level(width, height) + 1)
+}
+
+// 1, 2, 6.
+fn level_sizes_refusal(kind: u32, width: u32, height: u32, level: u32) -> u32
+    ensures { λ r. ⌜ r ≡ levelSizesRefusal kind width height level ⌝ }
+{
+    or_else(
+        picture_refusal(kind, width, height),
+        level_refusal(width, height, level),
+    )
+}
+
+// Level sizes: the level's start and sides with the chain's texel count.
+pub fn level_sizes(kind: u32, width: u32, height: u32, level: u32) -> Sizes
+    ensures answer { λ r. ⌜ r ≡ levelSizesAnswer kind width height level ⌝ }
+{
+    let refusal = level_sizes_refusal(kind, width, height, level);
+    if refusal != 0 {
+        return Sizes::Refused(refusal);
+    }
+    let faces = faces_of(kind);
+    Sizes::Level {
+        start: start_of(faces, width, height, level),
+        width: side_at(width, level),
+        height: side_at(height, level),
+        total: count_of(faces, width, height),
+    }
 }

@@ -1,10 +1,10 @@
+use Rattle.rules.proofs.Bounds.{top-most}
 use mathlib.Core.Path.{ap, _∙_}
 use Prim.Native.Nat.{_+_}
 use native.Mathlib.Numerals.{add-one}
 use native.Mathlib.Omega.{arith}
 use borrow.Author.Needs.{needs}
 use Rattle.rules.specs.Sizes.{start, count}
-use Rattle.texture.proofs.Bounds.{top-most}
 use Rattle.texture.proofs.sizes.count_of.Statement.{statement}
 use Rattle.texture.proofs.sizes.count_of.Tie as tie
 
@@ -12,10 +12,16 @@ top-level-requires : tie.Need-top-level-requires
 top-level-requires c κs = search needs
 
 add-start-of : tie.Need-add-start-of
-add-start-of c = omega (arith, top-most (c .before .args .width) (c .before .args .height) (c .before .pre .1) (c .before .pre .2))
+add-start-of c =
+    let a = c .before .args in
+    let p = c .before .pre in
+    omega (arith, top-most (a .width) (a .height) (p .1) (p .2) (p .3))
 
 start-of-requires : tie.Need-start-of-requires
-start-of-requires c κs = omega (arith, top-most (c .before .args .width) (c .before .args .height) (c .before .pre .1) (c .before .pre .2))
+start-of-requires c κs =
+    let a = c .before .args in
+    let p = c .before .pre in
+    omega (arith, top-most (a .width) (a .height) (p .1) (p .2) (p .3))
 
 returns : tie.Need-returns
 unfolding count

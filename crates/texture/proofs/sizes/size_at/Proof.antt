@@ -2,7 +2,7 @@ use native.Mathlib.Nat.{mul-le-mul}
 use native.Mathlib.Omega.{arith}
 use borrow.Author.Needs.{needs}
 use Rattle.rules.specs.Sizes.{sizeAt}
-use Rattle.texture.proofs.Bounds.{side-most, size-most}
+use Rattle.texture.proofs.Starts.{side-most, size-most}
 use Rattle.texture.proofs.sizes.size_at.Statement.{statement}
 use Rattle.texture.proofs.sizes.size_at.Tie as tie
 

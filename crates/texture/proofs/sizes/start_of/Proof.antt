@@ -5,7 +5,7 @@ use native.Mathlib.Omega.{arith}
 use native.Mathlib.Numerals.{add-one}
 use Rattle.rules.specs.Sizes.{start}
 use Rattle.rules.proofs.Sides.{start-suc}
-use Rattle.texture.proofs.Bounds.{size-most, start-most}
+use Rattle.texture.proofs.Starts.{size-most, start-most}
 use Rattle.texture.proofs.sizes.start_of.Statement.{statement}
 use Rattle.texture.proofs.sizes.start_of.Tie as tie
 

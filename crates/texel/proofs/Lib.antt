@@ -1,0 +1,12 @@
+pub mod Range
+pub mod Total
+pub mod Unit
+pub mod Unique
+pub mod Same
+pub mod Floors
+pub mod Fraction
+pub mod Coord
+pub mod Middle
+pub mod Digits64
+pub mod Cutting
+pub mod Whole28

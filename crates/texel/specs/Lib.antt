@@ -1,0 +1,2 @@
+-- The ranges that the lower crate's functions ask.
+pub mod Ends

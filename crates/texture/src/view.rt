@@ -1,0 +1,52 @@
+// The level view: the level itself, as part of the caller's texels; of a cubemap one face of it.
+use crate::refusals::chain_refusal;
+use crate::refusals::face_refusal;
+use crate::refusals::level_refusal;
+use crate::refusals::or_else;
+use crate::sizes::faces_of;
+use crate::sizes::side_at;
+use crate::sizes::start_of;
+ghost use mathlib.Core.Path.{_≡_};
+ghost use lib.ListN.{length};
+ghost use Rattle.rules.specs.Refusals.{viewRefusal};
+ghost use Rattle.rules.specs.Answers.{viewAnswer};
+
+// The refusal number of the level view, or 0 where the view is given: 1, 2, 3, 8, 6.
+pub fn level_view_refusal(
+    kind: u32,
+    width: u32,
+    height: u32,
+    texels: &[u32],
+    level: u32,
+    face: u32,
+) -> u32
+    ensures answer { λ r. ⌜ r ≡ viewRefusal kind width height (length (now (texels .entry))) level face ⌝ }
+{
+    or_else(
+        chain_refusal(kind, width, height, texels.len()),
+        or_else(
+            face_refusal(kind, face),
+            level_refusal(width, height, level),
+        ),
+    )
+}
+
+// The texels of one face of a level, and an empty part where it refuses.
+pub fn level_view<'a>(
+    kind: u32,
+    width: u32,
+    height: u32,
+    texels: &'a [u32],
+    level: u32,
+    face: u32,
+) -> &'a [u32]
+    ensures answer { λ r. ⌜ now r ≡ viewAnswer kind width height (now (texels .entry)) level face ⌝ }
+{
+    if level_view_refusal(kind, width, height, texels, level, face) != 0 {
+        return &texels[0..0];
+    }
+    let size = (side_at(height, level) as usize) * (side_at(width, level) as usize);
+    let start = start_of(faces_of(kind), width, height, level) + (face as usize) * size;
+    let end = start + size;
+    &texels[start..end]
+}
