@@ -1,4 +1,5 @@
 pub mod Example
+pub mod Files
 pub mod Reading
-pub mod Writings
 pub mod Spelling
+pub mod Writings

@@ -14,21 +14,10 @@ use Rattle.rules.specs.Sizes.{half, top, start, count}
 use Rattle.rules.specs.Pictures.{chainOf}
 use Rattle.rules.specs.Refusals.{_orElse_, chainRefusal}
 use Rattle.rules.specs.Answers.{answer}
-use Rattle.rules.proofs.Sides.{start-half}
-use Rattle.rules.proofs.Refusing.{orElse-zero, orElse-given, orElse-none, answer-refused, chain-facts, Chained}
+use Rattle.rules.proofs.Refusing.{orElse-zero, orElse-given, orElse-none, answer-refused}
 use Rattle.txr.specs.File.{wordAt, marked, kindIn, widthIn, heightIn, sizeIn, levelIn, headerRefusal, lengthRefusal, longest, levelsRefusal, fileRefusal}
-use Rattle.txr.specs.Listing.{levelLines, refusedLine, listingOf}
-
--- level 0 is a part of the chain
-pub size-le-count : (faces w h : ℕ) → 0 < w → 0 < h → faces * h * w ≤ count faces w h
-unfolding count
-size-le-count faces w h pw ph = omega (arith, start-half faces w h (top w h) pw ph)
-
--- a chain of at most 16,384 texels has a level 0 of no more
-pub size-most : (b : List ℕ) → levelsRefusal b ≡ 0 → sizeIn b ≤ longest
-size-most b e =
-    let c = chain-facts (kindIn b) (widthIn b) (heightIn b) longest e in
-    omega (arith, size-le-count (facesOf (kindIn b)) (widthIn b) (heightIn b) (c .taken .some-w) (c .taken .some-h), c .room)
+use Rattle.txr.specs.Listing.{refusedLine, listingOf}
+use Rattle.txr.proofs.Files.{size-most}
 
 orElse-same : (n m k : ℕ) → (n ≡ 0 → m ≡ k) → (n orElse m) ≡ (n orElse k)
 orElse-same zero m k e = ap (λ (x : ℕ). 0 orElse x) (e refl)

@@ -7,6 +7,10 @@ use lib.ListN.{length, getD}
 use Rattle.rules.specs.Kinds.{facesOf, rgba}
 use Rattle.rules.specs.Levels.{tab}
 use Rattle.rules.specs.Refusals.{_orElse_, unless, chainRefusal}
+use Rattle.rules.specs.Answers.{answer}
+use Rattle.txr.specs.declared.Header.{Header}
+use Rattle.txr.specs.declared.Parsed.{Parsed}
+use Rattle.txr.specs.declared.Parsed.the-variants.{Picture, Refused}
 
 -- the 16-bit number at byte i, little-endian
 unfoldable pub wordAt : List ℕ → ℕ → ℕ
@@ -26,13 +30,18 @@ widthIn b = wordAt b 6
 abbrev pub heightIn : List ℕ → ℕ
 heightIn b = wordAt b 8
 
+abbrev pub headerIn : List ℕ → Header
+headerIn b = record { kind = kindIn b; width = widthIn b; height = heightIn b }
+
 -- the texels of level 0: six faces for a cubemap
 abbrev pub sizeIn : List ℕ → ℕ
 sizeIn b = facesOf (kindIn b) * heightIn b * widthIn b
 
 -- texel i of level 0, as RGBA bytes behind the ten of the header
 unfoldable pub texelIn : List ℕ → ℕ → ℕ
-texelIn b i = rgba (getD b (10 + 4 * i) 0) (getD b (11 + 4 * i) 0) (getD b (12 + 4 * i) 0) (getD b (13 + 4 * i) 0)
+texelIn b i =
+    let at = 10 + 4 * i in
+    rgba (getD b at 0) (getD b (at + 1) 0) (getD b (at + 2) 0) (getD b (at + 3) 0)
 
 unfoldable pub levelIn : List ℕ → List ℕ
 levelIn b = tab (sizeIn b) (texelIn b)
@@ -56,3 +65,7 @@ lengthRefusal b = unless (eqb (length b) (10 + 4 * sizeIn b)) 12
 -- 12; 1; 2; 3; 12
 unfoldable pub fileRefusal : List ℕ → ℕ
 fileRefusal b = headerRefusal b orElse levelsRefusal b orElse lengthRefusal b
+
+-- a file's header, or the number that refuses it
+unfoldable pub fileAnswer : List ℕ → Parsed
+fileAnswer b = answer (fileRefusal b) Refused (Picture (headerIn b))
