@@ -1,13 +1,15 @@
--- Runs written over a buffer, joined. Assumes nothing.
-use mathlib.Core.Path.{_≡_, refl, sym, ap, ap₂, _∙_}
-use mathlib.Core.List.{List, [], _∷_, _++_, append-assoc}
-use Prim.Native.Nat.{ℕ, zero, suc, _+_, _-_, _*_, _/_, _%_, _≤_, _<_, min}
+-- A run is n texels f 0, f 1, … that stand over a buffer from one place on. A run of none is the buffer itself, a second run right
+-- behind a first joins it to one longer run, and what lies before a run is as it was: so a loop that writes texel after texel, or
+-- part after part, leaves one run. Assumes nothing.
+use mathlib.Core.Path.{_≡_, refl, sym, ap, _∙_}
+use mathlib.Core.List.{List, _∷_, _++_, append-assoc}
+use Prim.Native.Nat.{ℕ, zero, suc, _+_, _≤_, _<_}
 use native.Mathlib.Nat.{zero-add, add-zero, add-suc, suc-add, add-assoc}
 use native.Mathlib.Omega.{arith}
 use lib.ListN.{length, getD, take, drop, set, length-append, length-drop, take-append-drop, List·getD-append}
 use lib.Seq.{length-take-le, take-at, drop-at, drop-drop, getD-take, set-split}
 use Rattle.rules.specs.Levels.{tab}
-use Rattle.rules.proofs.Grid.{length-tab, getD-tab, tab-ext}
+use Rattle.rules.proofs.Grid.{length-tab, tab-ext}
 use Rattle.kinds.specs.Runs.{over}
 
 -- ---- runs

@@ -1,4 +1,4 @@
--- How large sizes get. The top level is floor(log2(larger side)) and at most 12; a chain has at most twice the texels of its level
+-- How large sizes get. The top level is at most 12; a chain has at most twice the texels of its level
 -- 0, since each level has at most half the texels of the one before; every level and every face of it lies in the chain.
 -- Assumes nothing.
 use mathlib.Core.Path.{_≡_, sym, ap, _∙_}
@@ -14,7 +14,7 @@ use Rattle.rules.specs.Kinds.{cubemap, facesOf}
 use Rattle.rules.specs.Sizes.{sideAt, half, top, sizeAt, start, count}
 use Rattle.rules.specs.View.{faceStart}
 use Rattle.rules.proofs.Refusing.{Taken}
-use Rattle.rules.proofs.Sides.{side-pos, side-one, log2-bounds, exp-le, top-side, start-suc, start-half}
+use Rattle.rules.proofs.Sides.{side-pos, side-one, exp-le, top-bounds, top-side, start-suc, start-half}
 
 -- ---- faces
 
@@ -39,11 +39,6 @@ unfolding facesOf
 faces-most kind = six-or-one (eqb kind cubemap) .1
 
 -- ---- the top level
-
--- the top level is floor(log2(larger side))
-pub top-bounds : (w h : ℕ) → 0 < w → (2 ^ top w h ≤ max w h) × (max w h < 2 ^ suc (top w h))
-unfolding top
-top-bounds w h p = log2-bounds (max w h) (omega arith)
 
 pub top-most : (w h : ℕ) → 0 < w → w ≤ 4096 → h ≤ 4096 → top w h ≤ 12
 top-most w h p q r = let b = top-bounds w h p in exp-le (top w h) 12 (omega arith)

@@ -3,12 +3,14 @@
 -- `X-refused`, its number where they do not. Assumes nothing.
 use mathlib.Core.Path.{_≡_, refl, sym, _∙_}
 use mathlib.Core.Bool.{Bool, true, false, not, _&&_, false≢true}
+use mathlib.Core.List.{List}
 use Prim.Native.Nat.{ℕ, zero, suc, _≤_, _<_, suc-le-suc}
 use native.Mathlib.Omega.{arith}
 use borrow.Author.Tests.{leb-true, eqb-true, eqb-false, not-true, le-leb, lt-leb, eq-eqb, ne-eqb}
 use lib.Dec.{leb, eqb}
 use Rattle.rules.specs.Kinds.{cubemap, facesOf}
 use Rattle.rules.specs.Sizes.{top, count}
+use Rattle.rules.specs.Pictures.{Picture}
 use Rattle.rules.specs.Refusals.{_orElse_, unless, kindRefusal, sideTaken, sidesRefusal, bufferRefusal, levelRefusal, noCubemapRefusal, onlyCubemapRefusal, faceRefusal, pictureRefusal, chainRefusal, levelSizesRefusal, viewRefusal}
 use Rattle.rules.specs.Answers.{answer}
 
@@ -202,7 +204,10 @@ pub record Taken (kind w h : ℕ) : Type 0 where
   pub most-w : w ≤ 4096
   pub most-h : h ≤ 4096
 
--- its sides alone
+-- of a picture; and its sides alone
+pub taken-of : {kind w h : ℕ} {l : List ℕ} → Picture kind w h l → Taken kind w h
+taken-of p = record { known = p .known; some-w = p .some-w; some-h = p .some-h; most-w = p .most-w; most-h = p .most-h }
+
 pub sides-of : {kind w h : ℕ} → Taken kind w h → Sides w h
 sides-of t = record { some-w = t .some-w; some-h = t .some-h; most-w = t .most-w; most-h = t .most-h }
 

@@ -89,12 +89,16 @@ log2-small zero h = refl
 log2-small (suc zero) h = refl
 log2-small (suc (suc n)) h = absurd (omega arith)
 
+-- ---- the top level
+
+-- the top level is floor(log2(larger side))
+pub top-bounds : (w h : ℕ) → 0 < w → (2 ^ top w h ≤ max w h) × (max w h < 2 ^ suc (top w h))
+unfolding top
+top-bounds w h p = log2-bounds (max w h) (omega arith)
+
 -- a power of two that fits a side is a level
 pub le-top : (k w h : ℕ) → 0 < w → 2 ^ k ≤ w → k ≤ top w h
-unfolding top
-le-top k w h p le =
-    let b = log2-bounds (max w h) (omega arith) in
-    exp-le k (log2 (max w h)) (omega arith)
+le-top k w h p le = let b = top-bounds w h p in exp-le k (top w h) (omega arith)
 
 -- ---- the top level of level a, opened as a picture of its own
 

@@ -18,19 +18,13 @@ use lib.Ieee.Positive.{positive, positive-of-value}
 use Rattle.rules.specs.Floats.{Between, zero32, one32}
 use Rattle.rules.specs.Whole.{halfEven, evenOf}
 use Rattle.texel.specs.Ends.{low23, high23, high12}
-use Rattle.texel.proofs.Range.{above, le→, Between-finite, in-mul, in-mul-abs, le-trans-finite}
+use Rattle.texel.proofs.Range.{le→, Between-finite, in-mul, in-mul-abs, le-trans-finite}
 use Rattle.texel.proofs.Unit.{ends}
 use Rattle.texel.proofs.Same.{round-own}
 
-as-above : (x : Float) → T (positive x) → T (above x)
-as-above nan p = p
-as-above (inf s) p = p
-as-above (fin true m e) p = p
-as-above (fin false m e) p = p
-
-side-above : (w : ℕ) → 1 ≤ w → w ≤ 4096 → T (above (ofInt binary32 (pos w)))
+side-positive : (w : ℕ) → 1 ≤ w → w ≤ 4096 → T (positive (ofInt binary32 (pos w)))
 unfolding ofInt
-side-above w a b = as-above (round binary32 false w 1) (positive-of-value (round binary32 false w 1) w 1 (round-whole binary32 false w (omega arith)) a)
+side-positive w a b = positive-of-value (round binary32 false w 1) w 1 (round-whole binary32 false w (omega arith)) a
 
 side-in : (w : ℕ) → w ≤ 4096 → Between (fin false 0 (pos 0)) (ofInt binary32 (pos w)) (fin false 1 (pos 12))
 unfolding ofInt round
@@ -39,7 +33,7 @@ side-in w h = record { low = round-mono binary32 0 1 w 1 (zero-lt-suc 0) (zero-l
 pub coord-in : (u : Float) (w : ℕ) → 1 ≤ w → w ≤ 4096 → T (le (fin true 1 (pos 11)) u) → T (le u (fin false 1 (pos 11))) → Between low23 (mul binary32 u (ofInt binary32 (pos w))) high23
 unfolding mul neg le
 coord-in u w a b l h =
-    in-mul-abs binary32 (fin false 0 (pos 0)) (fin false 1 (pos 11)) u (ofInt binary32 (pos w)) (fin false 1 (pos 12)) tt refl tt tt (side-above w a b) (side-in w b .low) tt (side-in w b .high) tt tt tt
+    in-mul-abs binary32 (fin false 0 (pos 0)) (fin false 1 (pos 11)) u (ofInt binary32 (pos w)) (fin false 1 (pos 12)) tt refl tt tt (side-positive w a b) (side-in w b .low) tt (side-in w b .high) tt tt tt
     (record { low = l; high = h })
 
 pub side-float : (w : ℕ) → w ≤ 4096 → T (inFloat binary32 (pos w))

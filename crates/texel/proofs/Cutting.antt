@@ -7,12 +7,7 @@ use lib.Ieee.Scale.{finite}
 use Rattle.rules.specs.Floats.{Between, zero32, one32, top32}
 use Rattle.texel.proofs.Range.{Between-finite, in-add}
 use Rattle.texel.proofs.Unit.{scaled-in}
-
-pub no-nan : (x : Float) → T (finite x) → T (not (isNan x))
-unfolding isNan
-no-nan nan t = t
-no-nan (inf s) t = tt
-no-nan (fin s m e) t = tt
+use Rattle.texel.proofs.Patterns.{no-nan}
 
 abbrev pub magic : Float
 magic = ofBits binary64 4733283208366391296

@@ -1,7 +1,14 @@
 pub mod Range
 pub mod Total
 pub mod Unit
+pub mod Units
 pub mod Unique
+pub mod Patterns
+pub mod Every
+pub mod Table
+pub mod Inverse
+pub mod RootDigits
+pub mod RootRule
 pub mod Same
 pub mod Floors
 pub mod Fraction

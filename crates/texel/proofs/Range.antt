@@ -15,7 +15,7 @@ use lib.Ieee.Exact.{HasValue, round-exact}
 use lib.Ieee.Order.{round-mono}
 use lib.Ieee.Scale.{finite, round-same}
 use lib.Ieee.Nearest.{div-mono as quot-mono}
-use lib.Ieee.Positive.{num, den, den-pos}
+use lib.Ieee.Positive.{num, den, den-pos, positive, positive-finite}
 use Rattle.rules.specs.Floats.{Between}
 
 -- ---- a signed magnitude as a difference of two numbers: ±a is plus s a - less s a
@@ -349,6 +349,9 @@ between-finite (fin s m e) (fin u i j) (fin t n d) p q h k = tt
 pub le-trans-finite : (x y z : Float) → T (finite x) → T (finite y) → T (finite z) → T (le x y) → T (le y z) → T (le x z)
 le-trans-finite x y z p q r h k = →le x z p r (Le-trans (plus (sgn x) (num x)) (less (sgn x) (num x)) (den x) (plus (sgn y) (num y)) (less (sgn y) (num y)) (den y) (plus (sgn z) (num z)) (less (sgn z) (num z)) (den z) (den-pos y) (le→ x y p q h) (le→ y z q r k))
 
+pub le-self : (x : Float) → T (finite x) → T (le x x)
+le-self x p = →le x x p p (le-refl (plus (sgn x) (num x) * den x + less (sgn x) (num x) * den x))
+
 -- ---- values that are not negative: -0 is one of them
 abbrev Zero : Bool → ℕ → Type 0
 Zero true a = a ≡ 0
@@ -412,12 +415,6 @@ mul-mono f z x x' y y' pz ez p p' q q' zx zy h k =
     (le-of-eq (mul-mul-mul-comm (num x') (den x) (num y') (den y)))))))
 
 -- ---- division by a value above zero
-abbrev pub above : Float → Bool
-above nan = false
-above (inf s) = false
-above (fin true m e) = false
-above (fin false m e) = ltb 0 m
-
 cond-no : {X : Type 0} (b : Bool) (x y : X) → T (not b) → cond b x y ≡ y
 cond-no true x y t = absurd t
 cond-no false x y t = refl
@@ -432,13 +429,13 @@ not-zero m h = go (eqb m 0) (eqb→eq m 0)
         clash k p h = omega arith
     go false e = tt
 
-above-num : (y : Float) → T (above y) → 0 < num y
-above-num nan p = absurd p
-above-num (inf s) p = absurd p
-above-num (fin true m e) p = absurd p
-above-num (fin false m e) p = mul-pos (ltb→lt 0 m p) (up-pos e)
+pub positive-num : (y : Float) → T (positive y) → 0 < num y
+positive-num nan p = absurd p
+positive-num (inf s) p = absurd p
+positive-num (fin true m e) p = absurd p
+positive-num (fin false m e) p = mul-pos (ltb→lt 0 m p) (up-pos e)
 
-div-is : (f : Format) (x y : Float) → T (finite x) → T (above y) → div f x y ≡ round f (sgn x) (num x * den y) (num y * den x)
+div-is : (f : Format) (x y : Float) → T (finite x) → T (positive y) → div f x y ≡ round f (sgn x) (num x * den y) (num y * den x)
 unfolding div
 div-is f nan y p q = absurd p
 div-is f (inf s) y p q = absurd p
@@ -454,37 +451,32 @@ scale-le p n c q m d k l h =
     let X = simp (add-mul, mul-assoc, mul-comm) at x in
     simp (mul-assoc, mul-comm, mul-left-comm) (omega (arith, X))
 
-pub div-mono : (f : Format) (x x' y : Float) → T (finite x) → T (finite x') → T (above y) → T (le x x') → T (le (div f x y) (div f x' y))
+pub div-mono : (f : Format) (x x' y : Float) → T (finite x) → T (finite x') → T (positive y) → T (le x x') → T (le (div f x y) (div f x' y))
 div-mono f x x' y p p' q h =
     rw (div-is f x y p q, div-is f x' y p' q)
     (round-le f (sgn x) (num x * den y) (num y * den x) (sgn x') (num x' * den y) (num y * den x')
-    (mul-pos (above-num y q) (den-pos x)) (mul-pos (above-num y q) (den-pos x'))
+    (mul-pos (positive-num y q) (den-pos x)) (mul-pos (positive-num y q) (den-pos x'))
     (simp (plus-mul, less-mul)
     (scale-le (plus (sgn x) (num x)) (less (sgn x) (num x)) (den x) (plus (sgn x') (num x')) (less (sgn x') (num x')) (den x') (den y) (num y) (le→ x x' p p' h))))
 
 -- y / y is 1
-pub div-self : (f : Format) (y : Float) → T (above y) → div f y y ≡ round f false 1 1
+pub div-self : (f : Format) (y : Float) → T (positive y) → div f y y ≡ round f false 1 1
 div-self f nan q = absurd q
 div-self f (inf s) q = absurd q
 div-self f (fin true m e) q = absurd q
 div-self f (fin false m e) q =
     let y = fin false m e in
-    div-is f y y tt q ∙ round-same f false (num y * den y) (num y * den y) 1 1 (mul-pos (above-num y q) (den-pos y)) (zero-lt-suc 0) (mul-comm (num y * den y) 1)
+    div-is f y y tt q ∙ round-same f false (num y * den y) (num y * den y) 1 1 (mul-pos (positive-num y q) (den-pos y)) (zero-lt-suc 0) (mul-comm (num y * den y) 1)
 
 -- -y / y is -1
-pub div-neg-self : (f : Format) (y : Float) → T (above y) → div f (neg y) y ≡ round f true 1 1
+pub div-neg-self : (f : Format) (y : Float) → T (positive y) → div f (neg y) y ≡ round f true 1 1
 unfolding neg
 div-neg-self f nan q = absurd q
 div-neg-self f (inf s) q = absurd q
 div-neg-self f (fin true m e) q = absurd q
 div-neg-self f (fin false m e) q =
     let y = fin false m e in
-    div-is f (fin true m e) y tt q ∙ round-same f true (num y * den y) (num y * den y) 1 1 (mul-pos (above-num y q) (den-pos y)) (zero-lt-suc 0) (mul-comm (num y * den y) 1)
-
-pub above-finite : (y : Float) → T (above y) → T (finite y)
-above-finite nan q = absurd q
-above-finite (inf s) q = absurd q
-above-finite (fin s m e) q = tt
+    div-is f (fin true m e) y tt q ∙ round-same f true (num y * den y) (num y * den y) 1 1 (mul-pos (positive-num y q) (den-pos y)) (zero-lt-suc 0) (mul-comm (num y * den y) 1)
 
 -- ---- the whole part
 pub whole-mono : (w : ℕ) (x y : Float) → T (finite x) → T (finite y) → T (le x y) → toUnsigned w x ≤ toUnsigned w y
@@ -593,7 +585,7 @@ in-mul f lo x hi lo' y hi' p q p' q' e e' b b' =
     zeros true a c false b d p q = rw (p, q) (omega arith)
     zeros true a c true b d p q = rw (p, q) (omega arith)
 
-pub in-div : (f : Format) (lo x hi y : Float) → T (finite lo) → T (finite hi) → T (above y) → Between lo x hi → Between (div f lo y) (div f x y) (div f hi y)
+pub in-div : (f : Format) (lo x hi y : Float) → T (finite lo) → T (finite hi) → T (positive y) → Between lo x hi → Between (div f lo y) (div f x y) (div f hi y)
 in-div f lo x hi y p q r b =
     let X = Between-finite lo x hi p q b in
     record { low = div-mono f lo x y p X r (b .low); high = div-mono f x hi y X q r (b .high) }
@@ -603,24 +595,24 @@ unlike-false : (s : Bool) → unlike s false ≡ s
 unlike-false true = refl
 unlike-false false = refl
 
-above-sign : (y : Float) → T (above y) → sgn y ≡ false
-above-sign nan p = absurd p
-above-sign (inf s) p = absurd p
-above-sign (fin true m e) p = absurd p
-above-sign (fin false m e) p = refl
+positive-sign : (y : Float) → T (positive y) → sgn y ≡ false
+positive-sign nan p = absurd p
+positive-sign (inf s) p = absurd p
+positive-sign (fin true m e) p = absurd p
+positive-sign (fin false m e) p = refl
 
 scale-mul : (p n c q m d k l : ℕ) → Le p n c q m d → Le (p * k) (n * k) (c * l) (q * k) (m * k) (d * l)
 scale-mul p n c q m d k l h = rw (mul-comm c l, mul-comm d l) (scale-le p n c q m d k l h)
 
-pub mul-mono-by : (f : Format) (x x' y : Float) → T (finite x) → T (finite x') → T (above y) → T (le x x') → T (le (mul f x y) (mul f x' y))
+pub mul-mono-by : (f : Format) (x x' y : Float) → T (finite x) → T (finite x') → T (positive y) → T (le x x') → T (le (mul f x y) (mul f x' y))
 mul-mono-by f x x' y p p' q h =
-    rw (mul-is f x y p (above-finite y q), mul-is f x' y p' (above-finite y q), above-sign y q, unlike-false (sgn x), unlike-false (sgn x'))
+    rw (mul-is f x y p (positive-finite y q), mul-is f x' y p' (positive-finite y q), positive-sign y q, unlike-false (sgn x), unlike-false (sgn x'))
     (round-le f (sgn x) (num x * num y) (den x * den y) (sgn x') (num x' * num y) (den x' * den y)
     (mul-pos (den-pos x) (den-pos y)) (mul-pos (den-pos x') (den-pos y))
     (simp (plus-mul, less-mul)
     (scale-mul (plus (sgn x) (num x)) (less (sgn x) (num x)) (den x) (plus (sgn x') (num x')) (less (sgn x') (num x')) (den x') (num y) (den y) (le→ x x' p p' h))))
 
-pub in-mul-by : (f : Format) (lo x hi y : Float) → T (finite lo) → T (finite hi) → T (above y) → Between lo x hi → Between (mul f lo y) (mul f x y) (mul f hi y)
+pub in-mul-by : (f : Format) (lo x hi y : Float) → T (finite lo) → T (finite hi) → T (positive y) → Between lo x hi → Between (mul f lo y) (mul f x y) (mul f hi y)
 in-mul-by f lo x hi y p q r b =
     let X = Between-finite lo x hi p q b in
     record { low = mul-mono-by f lo x y p X r (b .low); high = mul-mono-by f x hi y X q r (b .high) }
@@ -683,12 +675,12 @@ pub neg-order : (x y : Float) → T (le y x) → T (le (neg x) (neg y))
 neg-order x y h = neg-le x y h
 
 -- z is a zero
-pub in-mul-abs : (f : Format) (z a x y b : Float) → T (finite z) → num z ≡ 0 → T (finite a) → T (le z a) → T (above y) → T (le z y) → T (finite b) → T (le y b) → T (finite (mul f a b)) → T (finite (mul f z z))
+pub in-mul-abs : (f : Format) (z a x y b : Float) → T (finite z) → num z ≡ 0 → T (finite a) → T (le z a) → T (positive y) → T (le z y) → T (finite b) → T (le y b) → T (finite (mul f a b)) → T (finite (mul f z z))
     → T (le z z) → Between (neg a) x a → Between (neg (mul f a b)) (mul f x y) (mul f a b)
 in-mul-abs f z a x y b Z E A za Y zy B yb F G zz k =
     let X = Between-finite (neg a) x a (neg-finite a A) A k in
-    let Yf = above-finite y Y in
-    let top : T (le (mul f a y) (mul f a b)) = mul-mono f z a a y b Z E A A Yf B za zy (refl-le a A) yb in
+    let Yf = positive-finite y Y in
+    let top : T (le (mul f a y) (mul f a b)) = mul-mono f z a a y b Z E A A Yf B za zy (le-self a A) yb in
     let bottom : T (le (mul f z z) (mul f a y)) = mul-mono f z z a z y Z E Z A Z Yf zz zz za zy in
     let M : T (finite (mul f a y)) = between-finite (mul f z z) (mul f a y) (mul f a b) G F bottom top in
     let xy : T (finite (mul f x y)) = between-finite (mul f (neg a) y) (mul f x y) (mul f a y) (rw (mul-neg f a y A Yf) (neg-finite (mul f a y) M)) M (mul-mono-by f (neg a) x y (neg-finite a A) X Y (k .low)) (mul-mono-by f x a y X A Y (k .high)) in
@@ -697,9 +689,3 @@ in-mul-abs f z a x y b Z E A za Y zy B yb F G zz k =
           (subst (λ (w : Float). T (le w (mul f x y))) (mul-neg f a y A Yf) (mul-mono-by f (neg a) x y (neg-finite a A) X Y (k .low)));
       high = le-trans-finite (mul f x y) (mul f a y) (mul f a b) xy M F (mul-mono-by f x a y X A Y (k .high)) top;
     }
-  where
-    refl-le : (a : Float) → T (finite a) → T (le a a)
-    refl-le a A = →le a a A A (le-refl' (plus (sgn a) (num a)) (less (sgn a) (num a)) (den a))
-      where
-        le-refl' : (p n c : ℕ) → p * c + n * c ≤ p * c + n * c
-        le-refl' p n c = le-refl (p * c + n * c)

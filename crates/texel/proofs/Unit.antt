@@ -10,10 +10,11 @@ use lib.IntN.{pos, negsuc}
 use lib.Ieee.{Float, fin, Format, binary32, round, neg, add, sub, mul, div, le, lt, ofInt, ofBits, toUnsigned}
 use lib.Ieee.Order.{round-mono}
 use lib.Ieee.Scale.{finite}
+use lib.Ieee.Positive.{positive, positive-finite}
 use Rattle.rules.specs.Floats.{Between, zero32, half32, one32, minus1, two32, four32, top32, unpackOf, packOf, meanOf}
 use Rattle.rules.specs.Reducing.{spreadOf, backOf, normalMean}
 use Rattle.rules.specs.Faces.{onFace}
-use Rattle.texel.proofs.Range.{Between-finite, in-add, in-sub, in-mul, in-div, whole-mono, le-lt-trans, lt-le-trans, above, above-finite, neg-finite, div-self, div-neg-self}
+use Rattle.texel.proofs.Range.{Between-finite, in-add, in-sub, in-mul, in-div, whole-mono, le-lt-trans, lt-le-trans, neg-finite, div-self, div-neg-self}
 
 pub ends : {lo lo' x hi hi' : Float} → lo ≡ lo' → hi ≡ hi' → Between lo x hi → Between lo' x hi'
 ends {x = x} p q b = subst₂ (λ (l h : Float). Between l x h) p q b
@@ -107,7 +108,7 @@ mean-from lo hi a b c d L H L2 H2 L3 H3 L4 H4 p q r s =
     (in-add binary32 (add binary32 lo lo) (add binary32 a b) (add binary32 hi hi) lo c hi L2 H2 L H
     (in-add binary32 lo a hi lo b hi L H L H p q) r) s)
   where
-    four-above : T (above four32)
+    four-above : T (positive four32)
     four-above = unfold ofBits in tt
 
 -- ---- Normal
@@ -190,11 +191,11 @@ unfolding ofBits
 product-in x y b k = ends pw-low pw-high (in-mul binary32 zero32 x one32 zero32 y one32 tt tt tt tt refl refl b k)
 
 -- ---- q / major in -1 to 1, and its place in 0 to 1
-q-high : (major : Float) → T (above major) → div binary32 major major ≡ one32
+q-high : (major : Float) → T (positive major) → div binary32 major major ≡ one32
 unfolding ofBits round
 q-high major h = div-self binary32 major h
 
-q-low : (major : Float) → T (above major) → div binary32 (neg major) major ≡ minus1
+q-low : (major : Float) → T (positive major) → div binary32 (neg major) major ≡ minus1
 unfolding ofBits round neg
 q-low major h = div-neg-self binary32 major h
 
@@ -217,8 +218,8 @@ half-in q b =
     (in-mul binary32 zero32 half32 half32 (add binary32 minus1 one32) (add binary32 q one32) (add binary32 one32 one32) tt tt tt tt refl refl half-range
     (in-add binary32 minus1 q one32 one32 one32 one32 tt tt tt tt b one-in))
 
-pub quotient-in : (q major : Float) → T (above major) → Between (neg major) q major → Between minus1 (div binary32 q major) one32
-quotient-in q major h b = ends (q-low major h) (q-high major h) (in-div binary32 (neg major) q major major (neg-finite major (above-finite major h)) (above-finite major h) h b)
+pub quotient-in : (q major : Float) → T (positive major) → Between (neg major) q major → Between minus1 (div binary32 q major) one32
+quotient-in q major h b = ends (q-low major h) (q-high major h) (in-div binary32 (neg major) q major major (neg-finite major (positive-finite major h)) (positive-finite major h) h b)
 
-pub on-face-in : (q major : Float) → T (above major) → Between (neg major) q major → Between zero32 (onFace q major) one32
+pub on-face-in : (q major : Float) → T (positive major) → Between (neg major) q major → Between zero32 (onFace q major) one32
 on-face-in q major h b = half-in (div binary32 q major) (quotient-in q major h b)

@@ -1,1 +1,4 @@
 pub mod Starts
+pub mod Rows
+pub mod Cuts
+pub mod Crosses

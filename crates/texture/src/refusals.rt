@@ -3,6 +3,7 @@ use crate::sizes::count_of;
 use crate::sizes::faces_of;
 use crate::sizes::top_level;
 ghost use mathlib.Core.Path.{_≡_};
+ghost use mathlib.Core.Bool.{_&&_};
 ghost use Rattle.rules.specs.Refusals.{_orElse_, sideTaken, kindRefusal, sidesRefusal, bufferRefusal, levelRefusal, noCubemapRefusal, onlyCubemapRefusal, faceRefusal, pictureRefusal, chainRefusal};
 
 // The first that is given.
@@ -23,21 +24,24 @@ pub fn kind_refusal(kind: u32) -> u32
 }
 
 // A side is 1 to 4,096.
-pub fn side_taken(side: u32) -> bool
+fn side_taken(side: u32) -> bool
     ensures { λ r. ⌜ r ≡ sideTaken side ⌝ }
 {
     1 <= side && side <= 4096
+}
+
+// Two sides are each 1 to 4,096.
+pub fn sides_taken(width: u32, height: u32) -> bool
+    ensures { λ r. ⌜ r ≡ (sideTaken width && sideTaken height) ⌝ }
+{
+    side_taken(width) && side_taken(height)
 }
 
 // 2: a picture's side is 0 or above 4,096.
 pub fn sides_refusal(width: u32, height: u32) -> u32
     ensures { λ r. ⌜ r ≡ sidesRefusal width height ⌝ }
 {
-    if side_taken(width) && side_taken(height) {
-        0
-    } else {
-        2
-    }
+    if sides_taken(width, height) { 0 } else { 2 }
 }
 
 // 3: a lent buffer of n entries is shorter than what is read or filled there.
@@ -100,9 +104,9 @@ pub fn picture_refusal(kind: u32, width: u32, height: u32) -> u32
 pub fn chain_refusal(kind: u32, width: u32, height: u32, n: usize) -> u32
     ensures { λ r. ⌜ r ≡ chainRefusal kind width height n ⌝ }
 {
-    let picture = picture_refusal(kind, width, height);
-    if picture != 0 {
-        return picture;
+    let of_picture = picture_refusal(kind, width, height);
+    if of_picture != 0 {
+        return of_picture;
     }
     buffer_refusal(count_of(faces_of(kind), width, height), n)
 }

@@ -22,13 +22,10 @@ pub fn level_view_refusal(
 ) -> u32
     ensures answer { λ r. ⌜ r ≡ viewRefusal kind width height (length (now (texels .entry))) level face ⌝ }
 {
-    or_else(
-        chain_refusal(kind, width, height, texels.len()),
-        or_else(
-            face_refusal(kind, face),
-            level_refusal(width, height, level),
-        ),
-    )
+    let of_chain = chain_refusal(kind, width, height, texels.len());
+    let of_face = face_refusal(kind, face);
+    let of_level = level_refusal(width, height, level);
+    or_else(of_chain, or_else(of_face, of_level))
 }
 
 // The texels of one face of a level, and an empty part where it refuses.
