@@ -5,8 +5,8 @@ use Prim.Native.Nat.{ℕ}
 use lib.Ieee.{add, mul, div, ofBits, ofInt, toUnsigned}
 use Rattle.rules.specs.Kinds.{facesOf, rgba}
 use Rattle.rules.specs.Sizes.{sideAt, halvings, log2, top, sizeAt, start, count}
-use Rattle.rules.specs.Levels.{tab, grid, texel, quad, next, level, chain}
-use Rattle.rules.specs.Reducing.{eachOf, meanByte, linearOf, srgbOf, normalOf, metallicOf, reduceOf}
+use Rattle.rules.specs.Levels.{tab, grid, texel, quad, next, chain}
+use Rattle.rules.specs.Reducing.{eachOf, meanByte, linearOf, reduceOf}
 use Rattle.rules.specs.Pictures.{chainOf}
 use Rattle.rules.specs.Refusals.{_orElse_, kindRefusal, sidesRefusal, bufferRefusal, pictureRefusal, chainRefusal}
 use Rattle.rules.specs.Answers.{answer}
@@ -27,5 +27,5 @@ listed =
     ∷ 0x31 ∷ 0x20 ∷ 0x31 ∷ 0x20 ∷ 0x31 ∷ 0x20 ∷ 0x37 ∷ 0x46 ∷ 0x37 ∷ 0x46 ∷ 0x30 ∷ 0x30 ∷ 0x46 ∷ 0x46 ∷ 0x0A ∷ []
 
 pub example-listed : listingOf example ≡ listed
-unfolding facesOf rgba sideAt halvings log2 top sizeAt start count tab grid texel quad next level chain eachOf meanByte linearOf srgbOf normalOf metallicOf reduceOf chainOf _orElse_ kindRefusal sidesRefusal bufferRefusal pictureRefusal chainRefusal answer wordAt marked texelIn levelIn headerRefusal lengthRefusal fileRefusal digitOf digitsOf placesIn placesOf decimalOf hexOf fieldOf lineOf levelLine levelLines refusedLine listingOf add mul div ofBits ofInt toUnsigned
+unfolding facesOf rgba sideAt halvings log2 top sizeAt start count tab grid texel quad next chain eachOf meanByte linearOf reduceOf chainOf _orElse_ kindRefusal sidesRefusal bufferRefusal pictureRefusal chainRefusal answer wordAt marked texelIn levelIn headerRefusal lengthRefusal fileRefusal digitOf digitsOf placesIn placesOf decimalOf hexOf fieldOf lineOf levelLine levelLines refusedLine listingOf add mul div ofBits ofInt toUnsigned
 example-listed = refl

@@ -1,17 +1,16 @@
 -- What is known of a file that is not refused: ten bytes of header at least, a picture whose chain has at most 16,384 texels, and
 -- four bytes behind the header for each texel of level 0. Assumes nothing.
-use mathlib.Core.Path.{_≡_, refl, sym, ap, _∙_}
-use mathlib.Core.Bool.{true}
+use mathlib.Core.Path.{_≡_, sym, _∙_}
 use mathlib.Core.List.{List}
-use Prim.Native.Nat.{ℕ, zero, suc, _+_, _*_, _≤_, _<_}
+use Prim.Native.Nat.{ℕ, _+_, _*_, _≤_, _<_}
 use native.Mathlib.Omega.{arith}
-use lib.Dec.{leb, eqb}
+use lib.Dec.{leb}
 use lib.ListN.{length}
 use borrow.Author.Tests.{leb-true, eqb-true}
 use Rattle.rules.specs.Kinds.{facesOf}
-use Rattle.rules.specs.Sizes.{half, top, start, count}
+use Rattle.rules.specs.Sizes.{top, start, count}
 use Rattle.rules.proofs.Sides.{start-half}
-use Rattle.rules.specs.Refusals.{_orElse_, chainRefusal}
+use Rattle.rules.specs.Refusals.{chainRefusal}
 use Rattle.rules.proofs.Bounds.{faces-most}
 use Rattle.rules.proofs.Refusing.{orElse-zero, orElse-given, orElse-none, unless-none, and-both, chain-facts, Chained}
 use Rattle.txr.specs.declared.Header.{Header}

@@ -5,17 +5,12 @@ use mathlib.Core.List.{List}
 use Prim.Native.Nat.{ℕ, zero, suc, _+_, _*_, _≤_, _<_}
 use native.Mathlib.Decide.{decLe}
 use native.Mathlib.Omega.{arith}
-use lib.Dec.{leb, eqb}
-use lib.ListN.{length, getD, take}
+use lib.ListN.{length, take}
 use lib.Seq.{take-all, length-take-le, getD-take}
 use borrow.Author.Tests.{le-leb, ne-eqb}
-use Rattle.rules.specs.Kinds.{facesOf}
-use Rattle.rules.specs.Sizes.{half, top, start, count}
-use Rattle.rules.specs.Pictures.{chainOf}
-use Rattle.rules.specs.Refusals.{_orElse_, chainRefusal}
-use Rattle.rules.specs.Answers.{answer}
-use Rattle.rules.proofs.Refusing.{orElse-zero, orElse-given, orElse-none, answer-refused}
-use Rattle.txr.specs.File.{wordAt, marked, kindIn, widthIn, heightIn, sizeIn, levelIn, headerRefusal, lengthRefusal, longest, levelsRefusal, fileRefusal}
+use Rattle.rules.specs.Refusals.{_orElse_}
+use Rattle.rules.proofs.Refusing.{orElse-given, orElse-none, answer-refused}
+use Rattle.txr.specs.File.{wordAt, marked, sizeIn, headerRefusal, lengthRefusal, levelsRefusal, fileRefusal}
 use Rattle.txr.specs.Listing.{refusedLine, listingOf}
 use Rattle.txr.proofs.Files.{size-most}
 

@@ -1,7 +1,7 @@
 -- Runs written into a buffer, joined: what is written behind a run makes one run with it. Assumes nothing.
 use mathlib.Core.Path.{_≡_, refl, sym, ap, _∙_}
-use mathlib.Core.List.{List, [], _∷_, _++_, append-assoc, append-nil}
-use Prim.Native.Nat.{ℕ, zero, suc, _+_, _≤_, _<_}
+use mathlib.Core.List.{List, [], _∷_, _++_, append-assoc}
+use Prim.Native.Nat.{ℕ, _+_, _≤_, _<_}
 use native.Mathlib.Nat.{add-zero, add-suc, add-assoc}
 use native.Mathlib.Omega.{arith}
 use lib.ListN.{length, take, drop, set, length-append, length-drop, take-append-drop}
@@ -56,3 +56,8 @@ module _ {at : ℕ} {old a : List ℕ} {p : ℕ} {s : List ℕ} (x : Written at 
   -- one byte, by a store
   pub written-one : (v : ℕ) → p < length s → Written at old (a ++ (v ∷ [])) (p + 1) (set s p v)
   written-one v lt = written-more (record { room = omega arith; ends = refl; holds = put-one p s v lt })
+
+-- a run at the front of a buffer
+pub written-front : {old a : List ℕ} {p : ℕ} {s : List ℕ} → Written 0 old a p s → s ≡ a ++ drop p old
+unfolding put
+written-front {old} {a} x = x .holds ∙ ap (λ (k : ℕ). a ++ drop k old) (sym (x .ends))

@@ -2,8 +2,10 @@
 mod digits;
 mod file;
 mod lines;
+mod listing;
 
 pub use file::parse;
+pub use listing::list;
 
 // What the header of a file says of its picture.
 pub struct Header {

@@ -1,8 +1,7 @@
 // Lines of text, written into a lent buffer from a place on. Each answers the place behind what it wrote.
-ghost use mathlib.Core.Path.{_≡_};
 ghost use Prim.Native.Nat.{_+_, _<_, _≤_};
 ghost use lib.ListN.{length};
-ghost use Rattle.txr.specs.Listing.{newline, fieldOf, lineOf, refusedLine};
+ghost use Rattle.txr.specs.Listing.{fieldOf, lineOf, refusedLine};
 ghost use Rattle.txr.specs.Writing.{Written};
 use crate::digits::decimal;
 use crate::digits::hex;

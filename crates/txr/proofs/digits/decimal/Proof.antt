@@ -1,7 +1,6 @@
 -- `txr::digits::decimal` meets its contract. Assumes nothing.
 use native.Mathlib.Omega.{arith}
-use mathlib.Core.Path.{ap}
-use Rattle.txr.specs.Digits.{digitsOf, decimalOf}
+use Rattle.txr.specs.Digits.{decimalOf}
 use Rattle.txr.proofs.Spelling.{length-decimal}
 use borrow.Author.Needs.{needs}
 use Rattle.txr.proofs.digits.decimal.Statement.{statement}

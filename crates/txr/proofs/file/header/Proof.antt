@@ -1,7 +1,5 @@
 -- `txr::file::header` meets its contract. Assumes nothing.
 use native.Mathlib.Omega.{arith}
-use mathlib.Core.Path.{refl}
-use Rattle.txr.specs.File.{headerIn}
 use borrow.Author.Needs.{needs}
 use Rattle.txr.proofs.file.header.Statement.{statement}
 use Rattle.txr.proofs.file.header.Tie as tie

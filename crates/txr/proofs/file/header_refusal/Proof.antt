@@ -1,5 +1,4 @@
 -- `txr::file::header_refusal` meets its contract. Assumes nothing.
-use mathlib.Core.Path.{sym}
 use borrow.Author.Tests.{le-leb, lt-leb}
 use Rattle.txr.specs.File.{headerRefusal}
 use borrow.Author.Needs.{needs}

@@ -1,5 +1,4 @@
 -- `txr::file::marked` meets its contract, a test a byte. Assumes nothing.
-use mathlib.Core.Path.{sym}
 use borrow.Author.Tests.{eq-eqb, ne-eqb}
 use Rattle.txr.specs.File.{marked}
 use borrow.Author.Needs.{needs}

@@ -2,7 +2,7 @@
 use mathlib.Core.Path.{sym, ap, _∙_}
 use Rattle.rules.proofs.Refusing.{answer-given, answer-refused}
 use Rattle.txr.specs.declared.Parsed.the-variants.{Picture, Refused}
-use Rattle.txr.specs.File.{headerIn, fileRefusal, fileAnswer}
+use Rattle.txr.specs.File.{fileRefusal, fileAnswer}
 use Rattle.txr.proofs.Files.{file-facts}
 use borrow.Author.Needs.{needs}
 use Rattle.txr.proofs.file.parse.Statement.{statement}
