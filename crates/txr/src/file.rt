@@ -7,10 +7,10 @@ ghost use Rattle.txr.specs.File.{wordAt, marked, headerIn, texelIn, head
 ghost use Rattle.txr.specs.Writing.{Written};
 use crate::Header;
 use crate::Parsed;
-use texel::bytes::rgba;
 use levels::refusals::chain_refusal;
 use levels::sizes::faces_of;
 use levels::sizes::start_of;
+use texel::bytes::rgba;
 
 // The 16-bit number at byte i, little-endian.
 fn word_at(input: &[u8], i: usize) -> u32
