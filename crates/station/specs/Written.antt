@@ -9,7 +9,6 @@ use Rattle.rules.specs.declared.Wholes.{Wholes}
 use Rattle.rules.specs.declared.Directions.{Directions}
 use Rattle.rules.specs.declared.Pair.{Pair}
 use Rattle.rules.specs.declared.Sampler.{Sampler}
-use Rattle.rules.specs.declared.Spots.{Spots}
 use Rattle.rules.specs.declared.Sizes.{Sizes}
 use Rattle.rules.specs.declared.Sizes.the-variants.{Level, Refused as NoSizes}
 use Rattle.rules.specs.declared.Filled.{Filled}
