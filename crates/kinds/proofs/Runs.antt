@@ -14,6 +14,7 @@ use Rattle.kinds.specs.Runs.{over}
 
 -- ---- runs
 
+-- n + m texels are n and then m
 pub tab-add : (n m : ℕ) (f : ℕ → ℕ) → tab (n + m) f ≡ tab n f ++ tab m (λ k. f (n + k))
 unfolding tab
 tab-add zero m f = rw (zero-add m) (tab-ext m f (λ k. f (0 + k)) (λ i p. ap f (sym (zero-add i))))
@@ -23,18 +24,22 @@ tab-add (suc n) m f =
     ∙ ap (λ (r : List ℕ). tab n (λ k. f (suc k)) ++ r) (tab-ext m _ _ (λ i p. ap f (sym (suc-add n i))))))
 
 module _ (at : ℕ) (old : List ℕ) where
+  -- a run of none
   pub over-none : (f : ℕ → ℕ) → old ≡ over at old 0 f
   unfolding over tab
   over-none f = rw (add-zero at) (sym (take-append-drop at old))
 
+  -- the buffer stays as long
   pub length-over : (n : ℕ) (f : ℕ → ℕ) → at + n ≤ length old → length (over at old n f) ≡ length old
   unfolding over
   length-over n f room = simp (length-append, length-tab, length-drop, length-take-le at old (omega arith)) (omega arith)
 
+  -- runs that agree
   pub over-ext : (n : ℕ) (f g : ℕ → ℕ) → ((k : ℕ) → k < n → f k ≡ g k) → over at old n f ≡ over at old n g
   unfolding over
   over-ext n f g e = rw (tab-ext n f g e)
 
+  -- what lies before the run is as it was
   pub over-before : (n : ℕ) (f : ℕ → ℕ) (i : ℕ) → at ≤ length old → i < at → getD (over at old n f) i 0 ≡ getD old i 0
   unfolding over
   over-before n f i room lt =
@@ -69,9 +74,11 @@ pub record Over (at : ℕ) (old : List ℕ) (n : ℕ) (f : ℕ → ℕ) (s : Lis
   pub as-long : length s ≡ length old
   pub holds : s ≡ over at old n f
 
+-- from the equation
 pub over-is : (at : ℕ) (old : List ℕ) (n : ℕ) (f : ℕ → ℕ) (s : List ℕ) → at + n ≤ length old → s ≡ over at old n f → Over at old n f s
 over-is at old n f s room e = record { room = room; as-long = ap length e ∙ length-over at old n f room; holds = e }
 
+-- before the first texel
 pub over-first : (at : ℕ) (old : List ℕ) (f : ℕ → ℕ) → at ≤ length old → Over at old 0 f old
 over-first at old f le = record { room = omega arith; as-long = refl; holds = over-none at old f }
 
@@ -92,5 +99,6 @@ module _ {at : ℕ} {old : List ℕ} {n : ℕ} {f : ℕ → ℕ} {s : List ℕ} 
       over-more p 1 (λ _. v) (set s p v) ep (over-one p s (λ _. v) v (omega arith) refl) (omega arith)
       (λ k lt. let z : n + k ≡ n = omega arith in e ∙ ap f (sym z))
 
+  -- after the last
   pub over-end : (m : ℕ) → n ≡ m → s ≡ over at old m f
   over-end m e = rw (← e) (o .holds)

@@ -12,7 +12,8 @@ pub mod metallic;
 pub mod normal;
 pub mod srgb;
 
-// The texel that takes the place of p00, p10, p01, p11.
+// The texel that takes the place of p00, p10, p01, p11: 0 SRGB, 1 Normal, 2 MetallicRoughness; 3 Cubemap and 4 Linear are the
+// plain mean, and so is a code above 4, which every public call refuses.
 pub fn reduce(kind: u32, p00: u32, p10: u32, p01: u32, p11: u32) -> u32
     ensures { λ r. ⌜ r ≡ reduceOf kind p00 p10 p01 p11 ⌝ }
 {
@@ -25,7 +26,7 @@ pub fn reduce(kind: u32, p00: u32, p10: u32, p01: u32, p11: u32) -> u32
     }
 }
 
-// n texels of a row, from pairs of the two rows above.
+// n texels of a row, from pairs of the two rows above, by the same codes.
 pub fn row(kind: u32, n: usize, a: &[u32], b: &[u32], o: &mut [u32])
     requires { ⌜ (n ≤ length (now o)) × (2 * n ≤ length (now a)) × (2 * n ≤ length (now b)) ⌝ }
     ensures { λ _. ⌜ now (o .exit) ≡ over 0 (now (o .entry)) n (pairOf (reduceOf kind) (now (a .entry)) (now (b .entry))) ⌝ }

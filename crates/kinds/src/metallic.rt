@@ -28,7 +28,7 @@ fn square(byte: u8) -> f32
 }
 
 // The green channel.
-fn rough(p: Bytes) -> u8
+fn byte(p: Bytes) -> u8
     ensures { λ r. ⌜ r ≡ roughByte (p .a) (p .b) (p .c) (p .d) ⌝ }
 {
     pack(sqrt(mean(square(p.a), square(p.b), square(p.c), square(p.d))))
@@ -40,7 +40,7 @@ pub fn reduced(q: Quad) -> u32
 {
     rgba(
         red(q.p00),
-        rough(greens(q)),
+        byte(greens(q)),
         linear::byte(blues(q)),
         alpha(q.p00),
     )

@@ -21,7 +21,7 @@ ghost use Rattle.texel.specs.Tables.{curveTable, Index};
 ghost use Rattle.kinds.specs.Runs.{over, pairOf};
 
 // One colour channel.
-fn colour(t: &[f32; 256], index: &[u8; 1506], p: Bytes) -> u8
+fn byte(t: &[f32; 256], index: &[u8; 1506], p: Bytes) -> u8
     requires { ⌜ (now t ≡ curveTable) × Index (now index) ⌝ }
     ensures { λ r. ⌜ r ≡ srgbByte (p .a) (p .b) (p .c) (p .d) ⌝ }
 {
@@ -40,9 +40,9 @@ fn by_tables(t: &[f32; 256], index: &[u8; 1506], q: Quad) -> u32
     ensures { λ v. ⌜ v ≡ srgbOf (q .p00) (q .p10) (q .p01) (q .p11) ⌝ }
 {
     rgba(
-        colour(t, index, reds(q)),
-        colour(t, index, greens(q)),
-        colour(t, index, blues(q)),
+        byte(t, index, reds(q)),
+        byte(t, index, greens(q)),
+        byte(t, index, blues(q)),
         linear::byte(alphas(q)),
     )
 }

@@ -3,7 +3,7 @@ use crate::refusals::mip_level_refusal;
 use places::level::mip_level;
 use rules::Lanes;
 use rules::Level;
-use texture::sizes::top_level;
+use levels::sizes::top_level;
 ghost use mathlib.Core.Path.{_≡_};
 ghost use Prim.Native.Nat.{_≤_};
 ghost use Rattle.rules.specs.Footprint.{mipLevelOf};

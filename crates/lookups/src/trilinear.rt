@@ -12,7 +12,7 @@ use rules::Directions;
 use rules::Lanes;
 use rules::Pixel;
 use rules::Rgb;
-use texture::sizes::top_level;
+use levels::sizes::top_level;
 ghost use mathlib.Core.Path.{_≡_};
 ghost use mathlib.Core.Bool.{true};
 ghost use lib.ListN.{length};

@@ -2,16 +2,15 @@
 -- `encodeOf x` is the greatest byte whose value is at most x, and no other byte is. Where the byte k has a value at most x and the byte
 -- k + 1 has not, it is k; patterns have the order of their values, so an index on the pattern leaves two bytes. Assumes nothing.
 use mathlib.Core.Path.{_≡_, refl, sym, ap, _∙_, subst}
-use mathlib.Core.Logic.{_⊎_, inl, inr, ⊎-elim}
+use mathlib.Core.Logic.{inl, inr, ⊎-elim}
 use mathlib.Core.Bool.{Bool, true, false, not, cond}
 use Prim.Native.Nat.{ℕ, zero, suc, _+_, _-_, _*_, _/_, _%_, _^_, _≤_, _<_, zero-le}
-use native.Mathlib.Nat.{le-refl, le-trans, le-of-eq, le-of-lt, le-of-suc-le-suc, le-antisymm, lt-of-lt-of-le, lt-of-le-of-lt, lt-of-not-le, not-le-of-lt, eq-or-lt-of-le, mul-le-mul-left, pow-le-pow-left}
+use native.Mathlib.Nat.{le-refl, le-trans, le-of-eq, le-of-suc-le-suc, le-antisymm, lt-of-lt-of-le, lt-of-le-of-lt, lt-of-not-le, not-le-of-lt, eq-or-lt-of-le, pow-le-pow-left}
 use native.Mathlib.Omega.{arith}
 use native.Mathlib.Decide.{decLe}
-use lib.IntN.{pos}
-use lib.Dec.{T, leb, ltb, eqb, leb→le, le→leb, lit<, lit≤}
+use lib.Dec.{T, leb, le→leb, lit<, lit≤}
 use lib.Arith.{lt→nleb}
-use lib.Ieee.{Float, nan, inf, fin, binary32, le, ofBits, toBits, fits}
+use lib.Ieee.{Float, binary32, le, ofBits, toBits, fits}
 use lib.Ieee.Scale.{finite}
 use Rattle.rules.specs.Floats.{Between, zero32, one32}
 use Rattle.rules.specs.NearestValue.{nearestRoot}

@@ -1,25 +1,26 @@
 -- The value of a bit pattern is `units` of the smallest value, so patterns are in the order of the values; and the pattern of a value
 -- above zero lies below the infinity's. The fields of a pattern are taken apart once, and both follow. Assumes nothing.
 use mathlib.Core.Path.{_≡_, refl, sym, ap, _∙_, subst}
-use mathlib.Core.Logic.{_⊎_, inl, inr}
+use mathlib.Core.Logic.{inl, inr}
 use Prim.Native.Nat.{ℕ, zero, suc, _+_, _-_, _*_, _/_, _%_, _^_, _≤_, _<_}
 use native.Mathlib.Nat.{le-of-suc-le-suc, lt-of-le-of-lt, lt-of-not-le, not-le-of-lt, eq-zero-or-pos, zero-mul, mul-one, mul-pos, mul-le-mul-right, le-of-mul-le-mul-right}
 use native.Mathlib.Omega.{arith}
-use mathlib.Core.Bool.{Bool, true, false, not, cond}
-use lib.IntN.{ℤ, pos}
-use lib.Dec.{T, leb, ltb, eqb, ltb→lt, lt→ltb, nltb→le, nleb→lt, eqb→eq, lit<}
+use mathlib.Core.Bool.{Bool, true, false, not, _&&_, cond}
+use lib.IntN.{pos}
+use lib.Dec.{T, leb, ltb, eqb, ltb→lt, nltb→le, nleb→lt, eqb→eq, lit<}
 use lib.Arith.{le→nltb, lt→nleb}
 use lib.Pow.{pow-pos}
-use lib.Ieee.{Float, nan, inf, fin, binary32, up, down, le, odd, ofFields, ofBits, toBits, fits, isNan, nanBits}
-use lib.Ieee.Fits.{down-pos}
+use lib.Ieee.{Float, nan, inf, fin, binary32, binary64, up, down, le, odd, ofFields, ofBits, toBits, fits, isNan, nanBits}
+use lib.Ieee.Fits.{down-pos, and-i, fits-widens}
 use lib.Ieee.Exact.{HasValue, odd-sign}
 use lib.Ieee.Order.{transfer, le-of-values}
 use lib.Ieee.Scale.{finite}
-use lib.Ieee.Positive.{num, den, positive, positive-finite, value→cross, first-pos}
+use lib.Ieee.Positive.{num, den, positive, positive-finite, value→cross}
 use lib.Ieee.Bits.{is-false, ofBits-toBits, toBits-lt, nanBits-above}
 use Rattle.rules.specs.Floats.{zero32}
 use Rattle.rules.specs.NearestValue.{units}
 use Rattle.texel.proofs.Range.{sgn, le→, le-self, positive-num}
+use Rattle.texel.proofs.FromZero.{zero-or-above}
 use Rattle.texel.proofs.Same.{unique}
 use Rattle.texel.proofs.Units.{units-low, units-high, units-le, units-lt}
 
@@ -158,6 +159,10 @@ no-nan nan t = t
 no-nan (inf s) t = tt
 no-nan (fin s m e) t = tt
 
+-- what a cast from f32 to f64 asks
+pub widens : (x : Float) → T (fits binary32 x) → T (finite x) → T (fits binary64 x && not (isNan x))
+widens x f g = and-i (fits binary64 x) (not (isNan x)) (fits-widens x f) (no-nan x g)
+
 -- ---- the pattern of an x from zero up, without the sign that -0 has, is that of an equal value
 pub record Unsigned (x : Float) : Type 0 where
   pub small : toBits binary32 x % 2147483648 < 2139095040
@@ -190,13 +195,4 @@ positive-unsigned x f h =
     record { small = omega arith; under = subst (λ (y : Float). T (le y x)) (sym i) (le-self x g); over = subst (λ (y : Float). T (le x y)) (sym i) (le-self x g) }
 
 pub unsigned : (x : Float) → T (fits binary32 x) → T (finite x) → T (le zero32 x) → Unsigned x
-unsigned x f g h = elim (eq-zero-or-pos (num x)) [ inl z ↦ subst Unsigned (sym (zero-is x f g z)) (zero-unsigned (sgn x)) | inr p ↦ positive-unsigned x f (above x g h p) ]
-  where
-    none : (a d : ℕ) → 0 < a → 0 * d + a * 1 ≤ 0 * 1 + 0 * d → ⊥
-    none a d p h = omega arith
-
-    above : (x : Float) → T (finite x) → T (le zero32 x) → 0 < num x → T (positive x)
-    above nan g h p = absurd g
-    above (inf s) g h p = absurd g
-    above (fin false m e) g h p = lt→ltb 0 m (first-pos m (up e) p)
-    above (fin true m e) g h p = let k = le→ (fin false 0 (pos 0)) (fin true m e) tt tt (unfold ofBits in h) in absurd (none (m * up e) (down e) p k)
+unsigned x f g h = elim (zero-or-above x g h) [ inl z ↦ subst Unsigned (sym (zero-is x f g z)) (zero-unsigned (sgn x)) | inr p ↦ positive-unsigned x f p ]

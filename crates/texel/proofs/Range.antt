@@ -2,15 +2,14 @@
 -- add lo lo' ≤ add x y ≤ add hi hi', and the two ends are constants that antt computes. Assumes nothing.
 use mathlib.Core.Path.{_≡_, refl, sym, ap, ap₂, _∙_, subst, subst₂}
 use mathlib.Core.Logic.{_⊎_, inl, inr}
-use Prim.Native.Nat.{ℕ, zero, suc, _+_, _-_, _*_, _/_, _^_, _≤_, _<_, min, zero-le}
-use native.Mathlib.Nat.{le-refl, le-trans, le-of-eq, le-of-lt, lt-of-lt-of-le, lt-of-le-of-lt, eq-or-lt-of-le, zero-lt-suc, zero-mul, mul-zero, mul-one, mul-comm, mul-assoc, mul-left-comm, mul-right-comm, add-mul, mul-add, mul-le-mul-right, mul-le-mul, le-of-mul-le-mul-right, lt-of-mul-lt-mul-right, mul-lt-mul-of-pos-right, mul-pos, mul-mul-mul-comm, eq-zero-or-pos}
+use Prim.Native.Nat.{ℕ, zero, suc, _+_, _-_, _*_, _/_, _^_, _≤_, _<_, zero-le}
+use native.Mathlib.Nat.{le-refl, le-trans, le-of-eq, le-of-lt, eq-or-lt-of-le, zero-lt-suc, zero-mul, mul-zero, mul-comm, mul-assoc, mul-left-comm, mul-right-comm, add-mul, mul-le-mul-right, mul-le-mul, le-of-mul-le-mul-right, lt-of-mul-lt-mul-right, mul-lt-mul-of-pos-right, mul-pos, mul-mul-mul-comm, eq-zero-or-pos}
 use native.Mathlib.Omega.{arith}
-use mathlib.Core.Bool.{Bool, true, false, not, _&&_, _||_, Bool·beq, cond}
-use lib.IntN.{ℤ, pos, negsuc}
-use lib.Dec.{T, leb, ltb, eqb, ltb→lt, lt→ltb, nltb→le, eqb→eq, lit<}
+use mathlib.Core.Bool.{Bool, true, false, not, _&&_, _||_, cond}
+use lib.Dec.{T, ltb, eqb, ltb→lt, lt→ltb, nltb→le, eqb→eq}
 use lib.Pow.{pow-pos}
 use lib.Ieee.{Float, nan, inf, fin, Format, prec, emax, low, unlike, up, down, odd, units, round, sum, neg, add, sub, mul, div, le, lt, toUnsigned}
-use lib.Ieee.Fits.{up-pos, down-pos, and-i, and-l, and-r, eq→eqb, round-is, core}
+use lib.Ieee.Fits.{up-pos, down-pos, and-i, and-l, and-r, eq→eqb, round-is}
 use lib.Ieee.Exact.{HasValue, round-exact}
 use lib.Ieee.Order.{round-mono}
 use lib.Ieee.Scale.{finite, round-same}
@@ -291,7 +290,7 @@ sum-is f true a false b c = go (ltb a b) (ltb→lt a b) (nltb→le a b) (ltb b a
     go false h g true i = let l = g tt in record { sign = true; size = a - b; is = refl; val = omega arith }
     go false h g false i = let l = g tt in let r = i tt in record { sign = false; size = a - b; is = refl; val = omega arith }
 
-add-is : (f : Format) (x y : Float) → T (finite x) → T (finite y)
+pub add-is : (f : Format) (x y : Float) → T (finite x) → T (finite y)
     → Sum f (add f x y) (plus (sgn x) (num x * den y) + plus (sgn y) (num y * den x)) (less (sgn x) (num x * den y) + less (sgn y) (num y * den x)) (den x * den y)
 unfolding add
 add-is f nan y p q = absurd p
@@ -595,7 +594,7 @@ unlike-false : (s : Bool) → unlike s false ≡ s
 unlike-false true = refl
 unlike-false false = refl
 
-positive-sign : (y : Float) → T (positive y) → sgn y ≡ false
+pub positive-sign : (y : Float) → T (positive y) → sgn y ≡ false
 positive-sign nan p = absurd p
 positive-sign (inf s) p = absurd p
 positive-sign (fin true m e) p = absurd p

@@ -3,9 +3,9 @@
 -- the index shows where the values beside each entry lie. Assumes nothing.
 use mathlib.Core.Path.{_≡_, refl, sym, ap, _∙_, subst}
 use mathlib.Core.Bool.{Bool, true, false, not, _&&_, _||_, cond}
-use mathlib.Core.List.{List, [], _∷_}
+use mathlib.Core.List.{List}
 use Prim.Native.Nat.{ℕ, zero, suc, _+_, _-_, _*_, _^_, _≤_, _<_}
-use native.Mathlib.Nat.{le-of-lt, le-of-suc-le-suc, lt-of-le-of-lt, not-suc-le-zero, zero-add, suc-add, add-suc, pow-le-pow-left}
+use native.Mathlib.Nat.{le-of-suc-le-suc, lt-of-le-of-lt, not-suc-le-zero, zero-add, suc-add, add-suc, pow-le-pow-left}
 use native.Mathlib.Omega.{arith}
 use lib.Dec.{T, leb, ltb, eqb, leb→le, ltb→lt, eqb→eq, lit<}
 use lib.ListN.{length, getD}

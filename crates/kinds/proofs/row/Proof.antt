@@ -1,3 +1,4 @@
+-- `kinds::row` meets its contract, code by code. Assumes nothing.
 use borrow.Author.Needs.{needs}
 use Rattle.kinds.proofs.Codes.{of-srgb, of-normal, of-metallic, of-linear}
 use Rattle.kinds.proofs.row.Statement.{statement}

@@ -1,3 +1,4 @@
+-- `kinds::linear::byte` meets its contract: the mean of four values in 0 to 1 lies there, so it packs. Assumes nothing.
 use borrow.Author.Needs.{needs}
 use Rattle.rules.specs.Reducing.{meanByte}
 use Rattle.texel.proofs.Unit.{unpacked-in, mean-in}

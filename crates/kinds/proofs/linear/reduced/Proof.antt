@@ -1,3 +1,4 @@
+-- `kinds::linear::reduced` meets its contract. Assumes nothing.
 use Rattle.rules.specs.Reducing.{linearOf, eachOf}
 use borrow.Author.Needs.{needs}
 use Rattle.kinds.proofs.linear.reduced.Statement.{statement}

@@ -1,3 +1,4 @@
+-- `kinds::metallic::reduced` meets its contract. Assumes nothing.
 use Rattle.rules.specs.Reducing.{metallicOf}
 use borrow.Author.Needs.{needs}
 use Rattle.kinds.proofs.metallic.reduced.Statement.{statement}
@@ -9,14 +10,14 @@ red-requires c κs = search needs
 greens-requires : tie.Need-greens-requires
 greens-requires c κs = search needs
 
-rough-requires : tie.Need-rough-requires
-rough-requires c κs = search needs
+byte-requires : tie.Need-byte-requires
+byte-requires c κs = search needs
 
 blues-requires : tie.Need-blues-requires
 blues-requires c κs = search needs
 
-byte-requires : tie.Need-byte-requires
-byte-requires c κs = search needs
+byte-requires-2 : tie.Need-byte-requires-2
+byte-requires-2 c κs = search needs
 
 alpha-requires : tie.Need-alpha-requires
 alpha-requires c κs = search needs
@@ -34,9 +35,9 @@ reduced-spec =
     (tie.spec
     red-requires
     greens-requires
-    rough-requires
-    blues-requires
     byte-requires
+    blues-requires
+    byte-requires-2
     alpha-requires
     rgba-requires
     returns)

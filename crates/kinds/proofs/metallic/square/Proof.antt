@@ -1,3 +1,4 @@
+-- `kinds::metallic::square` meets its contract. Assumes nothing.
 use borrow.Author.Needs.{needs}
 use Rattle.kinds.proofs.metallic.square.Statement.{statement}
 use Rattle.kinds.proofs.metallic.square.Tie as tie

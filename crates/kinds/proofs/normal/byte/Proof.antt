@@ -1,3 +1,4 @@
+-- `kinds::normal::byte` meets its contract: the value back from -1 to 1 lies in 0 to 1, so it packs. Assumes nothing.
 use borrow.Author.Needs.{needs}
 use Rattle.rules.specs.Reducing.{normalByte}
 use Rattle.texel.proofs.Unit.{unpack-in, normal-in}

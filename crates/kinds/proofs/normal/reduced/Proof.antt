@@ -1,3 +1,4 @@
+-- `kinds::normal::reduced` meets its contract. Assumes nothing.
 use Rattle.rules.specs.Reducing.{normalOf, eachOf}
 use borrow.Author.Needs.{needs}
 use Rattle.kinds.proofs.normal.reduced.Statement.{statement}

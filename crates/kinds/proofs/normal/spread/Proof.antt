@@ -1,3 +1,4 @@
+-- `kinds::normal::spread` meets its contract. Assumes nothing.
 use borrow.Author.Needs.{needs}
 use Rattle.kinds.proofs.normal.spread.Statement.{statement}
 use Rattle.kinds.proofs.normal.spread.Tie as tie

@@ -1,3 +1,4 @@
+-- `reduce::chain::fill` meets its contract. The measure is the number of levels left. Assumes nothing.
 use borrow.Author.Needs.{needs}
 use native.Mathlib.Omega.{arith}
 use Rattle.rules.specs.Reducing.{reduceOf}

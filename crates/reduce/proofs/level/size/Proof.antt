@@ -1,3 +1,4 @@
+-- `reduce::level::size` meets its contract: no product wraps. Assumes nothing.
 use native.Mathlib.Omega.{arith}
 use Rattle.reduce.proofs.Bounds.{rows, texels}
 use borrow.Author.Needs.{needs}

@@ -1,3 +1,4 @@
+-- `reduce::row::narrow` meets its contract. Assumes nothing.
 use borrow.Author.Needs.{needs}
 use native.Mathlib.Omega.{arith}
 use Rattle.rules.specs.Reducing.{reduceOf}

@@ -1,3 +1,4 @@
+-- `reduce::row::put` meets its contract. The invariant: i texels stand from `to` on. The measure is what is left. Assumes nothing.
 use mathlib.Core.Path.{refl}
 use Prim.Native.Nat.{_≤_, _-_}
 use native.Mathlib.Omega.{arith}

@@ -1,3 +1,4 @@
+-- `reduce::row::whole` meets its contract. The invariant: x texels of the row stand from `to` on. The measure is what is left. Assumes nothing.
 use mathlib.Core.Path.{_≡_, refl, _∙_}
 use Prim.Native.Nat.{_≤_, _-_}
 use native.Mathlib.Omega.{arith}

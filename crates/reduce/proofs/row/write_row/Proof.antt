@@ -1,3 +1,4 @@
+-- `reduce::row::write_row` meets its contract: sources one wide, or wider. Assumes nothing.
 use native.Mathlib.Omega.{arith}
 use Rattle.rules.specs.Reducing.{reduceOf}
 use Rattle.reduce.proofs.Rows.{one-is, wide-is}
