@@ -1,21 +1,21 @@
 -- The rows of the six faces of a cross: where each is read and where it goes, and that together they are the cross's faces. The
 -- faces are one picture of 6 * h rows, so row y is row y % h of face y / h. Assumes nothing.
-use mathlib.Core.Path.{_≡_, refl, sym, ap, _∙_}
+use mathlib.Core.Path.{_≡_}
 use mathlib.Core.Bool.{Bool, true, false, cond}
 use mathlib.Core.List.{List, _++_}
-use Prim.Native.Nat.{ℕ, suc, _+_, _*_, _/_, _%_, _≤_, _<_}
+use Prim.Native.Nat.{ℕ, _+_, _*_, _/_, _%_, _≤_, _<_}
 use native.Mathlib.Nat.{mul-le-mul, mul-le-mul-right, suc-mul, mod-lt, add-assoc}
 use native.Mathlib.Omega.{arith}
 use lib.Arith.{digits-lt, digits-div, digits-mod}
 use lib.Dec.{eqb}
-use lib.ListN.{length, getD, drop}
+use lib.ListN.{length, drop}
 use Rattle.rules.specs.Levels.{grid}
 use Rattle.rules.specs.Cross.{crossWidth, crossHeight, columnOf, rowOf, byteTexel, crossOf}
 use Rattle.rules.specs.Refusals.{crossSidesRefusal}
 use Rattle.rules.proofs.Refusing.{unless-none, Sides, sides-fact}
 use Rattle.kinds.specs.Runs.{over}
 use Rattle.levels.specs.Crosses.{bytesAt, crossCell}
-use Rattle.levels.proofs.Rows.{Rows, rows-first, rows-goes, rows-more, rows-end, over-front}
+use Rattle.levels.proofs.Rows.{Rows, rows-first, rows-room, rows-more, rows-end, over-front}
 
 -- where 10 is not given, the faces have sides 1 to 4,096
 pub cross-faces-sides : (w h : ℕ) → crossSidesRefusal w h ≡ 0 → Sides (crossWidth w) (crossHeight h)
@@ -55,8 +55,8 @@ pub record FaceRows (w h : ℕ) (bytes old s : List ℕ) (y : ℕ) : Type 0 wher
   pub read : h * w * 4 ≤ length bytes
   pub rows : Rows (crossWidth w) (6 * crossHeight h) (crossCell w h bytes) old s y
 
-pub faces-first : (w h : ℕ) (bytes old : List ℕ) → Sides (crossWidth w) (crossHeight h) → h * w * 4 ≤ length bytes → 6 * crossHeight h * crossWidth w ≤ length old
-    → FaceRows w h bytes old old 0
+pub faces-first : (w h : ℕ) (bytes old : List ℕ) → Sides (crossWidth w) (crossHeight h) → h * w * 4 ≤ length bytes
+    → 6 * crossHeight h * crossWidth w ≤ length old → FaceRows w h bytes old old 0
 faces-first w h bytes old s read room = record { sides = s; read = read; rows = rows-first _ _ _ old room }
 
 -- where the next row is read, of a face at column k and row r, and where it goes
@@ -79,7 +79,7 @@ module _ {w h : ℕ} {bytes old s : List ℕ} {y : ℕ} (t : FaceRows w h bytes 
         row = inside;
         column = omega (arith, mul-le-mul-right (crossWidth w) beside, suc-mul k (crossWidth w));
         reads = omega (arith, mul-le-mul-right w inside, suc-mul (r * crossHeight h + y % crossHeight h) w);
-        goes = rows-goes (t .rows) lt;
+        goes = rows-room (t .rows) lt;
         few = omega (arith, t .sides .most-h);
         most = cross-most w h (t .sides);
       }
@@ -102,6 +102,7 @@ pub faces-end : {w h : ℕ} {bytes old s : List ℕ} {y : ℕ} → FaceRows w h 
 faces-end t le = rows-end (t .rows) le
 
 -- the run is the six faces
-pub cross-is : (w h : ℕ) (bytes old : List ℕ) → over 0 old (6 * crossHeight h * crossWidth w) (crossCell w h bytes) ≡ crossOf w h bytes ++ drop (6 * crossHeight h * crossWidth w) old
+pub cross-is : (w h : ℕ) (bytes old : List ℕ)
+    → over 0 old (6 * crossHeight h * crossWidth w) (crossCell w h bytes) ≡ crossOf w h bytes ++ drop (6 * crossHeight h * crossWidth w) old
 unfolding crossCell crossOf grid
 cross-is w h bytes old = over-front old _ _

@@ -1,6 +1,6 @@
 -- The cut's test goes side by side, and its rows one after the other make the cut. Assumes nothing.
 use mathlib.Core.Path.{_≡_, ap, _∙_}
-use mathlib.Core.Bool.{Bool, true, false, not}
+use mathlib.Core.Bool.{true, not}
 use mathlib.Core.List.{List, _++_}
 use Prim.Native.Nat.{ℕ, _+_, _-_, _*_, _/_, _%_, _^_, _≤_, _<_}
 use native.Mathlib.Nat.{one-mul, zero-mul, zero-add, suc-mul, add-assoc, mul-le-mul, mul-le-mul-right, le-trans, div-lt-iff-lt-mul, div-eq-of-lt, mod-eq-of-lt}
@@ -14,7 +14,7 @@ use lib.Pow.{shl-exact}
 use lib.Seq.{getD-drop}
 use Rattle.rules.specs.declared.Pair.{Pair}
 use Rattle.rules.specs.Kinds.{facesOf}
-use Rattle.rules.specs.Levels.{tab, grid, texel}
+use Rattle.rules.specs.Levels.{grid, texel}
 use Rattle.rules.specs.Cuts.{cut, aligned}
 use Rattle.rules.proofs.Bounds.{faces-flat}
 use Rattle.rules.proofs.Grid.{tab-ext}
@@ -22,7 +22,7 @@ use Rattle.rules.proofs.Refusing.{and-both}
 use Rattle.rules.proofs.RefusingCuts.{Cutting, CutCall}
 use Rattle.kinds.specs.Runs.{over}
 use Rattle.levels.specs.Cuts.{along, cutCell}
-use Rattle.levels.proofs.Rows.{Rows, rows-first, rows-goes, rows-more, rows-end, over-front}
+use Rattle.levels.proofs.Rows.{Rows, rows-first, rows-room, rows-more, rows-end, over-front}
 
 -- 1 shifted left by k, in 32 bits
 pub one-shl : (k : ℕ) → k ≤ 12 → (1 * 2 ^ k) % 2 ^ 32 ≡ 2 ^ k
@@ -102,8 +102,8 @@ module _ {w cx cy cw ch : ℕ} {source old s : List ℕ} {y : ℕ} (t : CutRows 
   pub cut-row : y < ch → cw ≤ length (take (length source - ((cy + y) * w + cx)) (drop ((cy + y) * w + cx) source))
   cut-row lt = rw (part-to-end source ((cy + y) * w + cx), length-drop) (omega (arith, cut-reads lt))
 
-  pub cut-goes : y < ch → y * cw + cw ≤ length old
-  cut-goes lt = rows-goes (t .rows) lt
+  pub cut-room : y < ch → y * cw + cw ≤ length old
+  cut-room lt = rows-room (t .rows) lt
 
   pub cut-more : y < ch → (u : List ℕ)
       → u ≡ over (y * cw) s cw (λ x. getD (take (length source - ((cy + y) * w + cx)) (drop ((cy + y) * w + cx) source)) x 0)

@@ -1,3 +1,4 @@
+pub mod Passing
 pub mod Starts
 pub mod Viewing
 pub mod Rows

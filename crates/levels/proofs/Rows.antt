@@ -1,8 +1,8 @@
 -- Rows of w texels, written one after the other from the front of a buffer: y of them are a run of y * w texels, and a row more
 -- makes it longer by w. Assumes nothing.
-use mathlib.Core.Path.{_≡_, ap, _∙_}
+use mathlib.Core.Path.{_≡_, ap}
 use mathlib.Core.List.{List, _++_}
-use Prim.Native.Nat.{ℕ, suc, _+_, _*_, _≤_, _<_}
+use Prim.Native.Nat.{ℕ, _+_, _*_, _≤_, _<_}
 use native.Mathlib.Nat.{zero-mul, zero-add, suc-mul, mul-le-mul-right}
 use native.Mathlib.Numerals.{add-one}
 use native.Mathlib.Omega.{arith}
@@ -22,15 +22,16 @@ rows-first w rows f old room = record { below = omega arith; room = room; run = 
 
 module _ {w rows : ℕ} {f : ℕ → ℕ} {old s : List ℕ} {y : ℕ} (r : Rows w rows f old s y) where
   -- there is room for the next row
-  pub rows-goes : y < rows → y * w + w ≤ length old
-  rows-goes lt = omega (arith, mul-le-mul-right w lt, suc-mul y w, r .room)
+  pub rows-room : y < rows → y * w + w ≤ length old
+  rows-room lt = omega (arith, mul-le-mul-right w lt, suc-mul y w, r .room)
 
-  pub rows-more : y < rows → (g : ℕ → ℕ) (t : List ℕ) → t ≡ over (y * w) s w g → ((x : ℕ) → x < w → g x ≡ f (y * w + x)) → Rows w rows f old t (y + 1)
+  pub rows-more : y < rows → (g : ℕ → ℕ) (t : List ℕ) → t ≡ over (y * w) s w g → ((x : ℕ) → x < w → g x ≡ f (y * w + x))
+      → Rows w rows f old t (y + 1)
   rows-more lt g t et e =
       record {
         below = omega arith;
         room = r .room;
-        run = rw (add-one y, suc-mul y w) (over-more (r .run) (y * w) w g t (omega arith) et (omega (arith, rows-goes lt)) e);
+        run = rw (add-one y, suc-mul y w) (over-more (r .run) (y * w) w g t (omega arith) et (omega (arith, rows-room lt)) e);
       }
 
   pub rows-end : rows ≤ y → s ≡ over 0 old (rows * w) f

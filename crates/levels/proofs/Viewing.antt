@@ -1,6 +1,6 @@
 -- Where a view is given, level sizes are answered too: their start and sides say where the face starts and that it ends within the
 -- buffer. Assumes nothing.
-use mathlib.Core.Path.{_≡_, sym, ap, _∙_}
+use mathlib.Core.Path.{_≡_}
 use mathlib.Core.List.{List}
 use Prim.Native.Nat.{ℕ, _+_, _-_, _*_, _≤_}
 use native.Mathlib.Nat.{add-sub-cancel-left, le-trans}
@@ -11,13 +11,13 @@ use Rattle.rules.specs.Kinds.{facesOf}
 use Rattle.rules.specs.Sizes.{sideAt, start, count}
 use Rattle.rules.specs.View.{faceStart, faceView}
 use Rattle.rules.specs.Answers.{levelSizesAnswer}
-use Rattle.rules.proofs.Refusing.{answer-given, sizes-taken, Viewed}
+use Rattle.rules.proofs.Refusing.{sizes-taken, Viewed}
 use Rattle.rules.proofs.Bounds.{face-end}
+use Rattle.levels.proofs.Passing.{sizes-goes}
 
 sizes-given : {kind w h n m f : ℕ} → Viewed kind w h n m f
-    → levelSizesAnswer kind w h m ≡ Level (start (facesOf kind) w h m) (sideAt m w) (sideAt m h) (count (facesOf kind) w h)
-unfolding levelSizesAnswer
-sizes-given {kind} {w} {h} {m} v = answer-given _ _ _ (sizes-taken kind w h m (record { taken = v .chained .taken; below = v .below }))
+    → Level (start (facesOf kind) w h m) (sideAt m w) (sideAt m h) (count (facesOf kind) w h) ≡ levelSizesAnswer kind w h m
+sizes-given {kind} {w} {h} {m} v = sizes-goes kind w h m (sizes-taken kind w h m (record { taken = v .chained .taken; below = v .below }))
 
 -- they are not refused
 pub not-refused : {kind w h n m f k : ℕ} → Viewed kind w h n m f → levelSizesAnswer kind w h m ≡ Refused k → ⊥

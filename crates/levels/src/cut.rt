@@ -80,7 +80,9 @@ fn cut_refusal(
 
 // Writes the cut's rows one after the other. The source's level 0 is w wide.
 fn write_cut(w: usize, corner: Pair, sides: Pair, source: &[u32], target: &mut [u32])
-    requires { ⌜ (corner .x + sides .x ≤ w) × ((corner .y + sides .y) * w ≤ length (now source)) × (sides .y * sides .x ≤ length (now target)) ⌝ }
+    requires { ⌜ corner .x + sides .x ≤ w ⌝ }
+    requires { ⌜ (corner .y + sides .y) * w ≤ length (now source) ⌝ }
+    requires { ⌜ sides .y * sides .x ≤ length (now target) ⌝ }
     ensures { λ _. ⌜ now (target .exit) ≡ over 0 (now (target .entry)) (sides .y * sides .x) (cutCell w (corner .x) (corner .y) (sides .x) (now (source .entry))) ⌝ }
 {
     let x = corner.x as usize;

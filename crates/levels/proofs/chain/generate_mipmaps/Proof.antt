@@ -1,14 +1,14 @@
-use mathlib.Core.Path.{_≡_, sym, ap, _∙_}
+-- `levels::chain::generate_mipmaps` meets its contract: past the test the chain has room, and `fill` leaves it. Assumes nothing.
+use mathlib.Core.Path.{_∙_}
 use native.Mathlib.Numerals.{add-one}
 use native.Mathlib.Omega.{arith}
+use borrow.Author.Needs.{needs}
 use lib.ListN.{length}
 use Rattle.rules.specs.Sizes.{count}
 use Rattle.rules.specs.Pictures.{filledOf}
-use Rattle.rules.specs.Refusals.{chainRefusal}
-use Rattle.rules.specs.Answers.{chainAnswer, chainLeaves}
-use Rattle.rules.proofs.Refusing.{answer-given, answer-refused, Chained, chain-facts}
+use Rattle.rules.proofs.Refusing.{Chained, chain-facts}
 use Rattle.rules.proofs.Bounds.{faces-some, faces-most}
-use borrow.Author.Needs.{needs}
+use Rattle.levels.proofs.Passing.{passed, chain-stops, chain-goes}
 use Rattle.levels.proofs.chain.generate_mipmaps.Statement.{statement}
 use Rattle.levels.proofs.chain.generate_mipmaps.Tie as tie
 
@@ -16,10 +16,7 @@ chain-refusal-requires : tie.Need-chain-refusal-requires
 chain-refusal-requires c κs = search needs
 
 returns : tie.Need-returns
-unfolding chainAnswer chainLeaves
-returns c =
-    let e = c .before .chain-refusal .ensures in
-    (rw e (sym (answer-refused _ _ _ (λ z. c .if1 .taken (e ∙ z)))), sym (answer-refused _ _ _ (λ z. c .if1 .taken (e ∙ z))))
+returns c = chain-stops _ _ _ _ (c .before .chain-refusal .ensures) (c .if1 .taken)
 
 faces-of-requires : tie.Need-faces-of-requires
 faces-of-requires c κs = search needs
@@ -34,13 +31,8 @@ add-levels : tie.Need-add-levels
 add-levels c = search needs
 
 -- past the test nothing is refused
-fine : (c : tie.Else1)
-    → chainRefusal (c .before .before .before .args .kind) (c .before .before .before .args .width) (c .before .before .before .args .height) (length (c .before .before .before .args .texels .now)) ≡ 0
-fine c = sym (c .before .chain-refusal .ensures) ∙ c .if1 .left
-
-known : (c : tie.Else1)
-    → Chained (c .before .before .before .args .kind) (c .before .before .before .args .width) (c .before .before .before .args .height) (length (c .before .before .before .args .texels .now))
-known c = chain-facts _ _ _ _ (fine c)
+known : (c : tie.Else1) → let a = c .before .before .before .args in Chained (a .kind) (a .width) (a .height) (length (a .texels .now))
+known c = chain-facts _ _ _ _ (passed (c .before .chain-refusal .ensures) (c .if1 .left))
 
 fill-requires : tie.Need-fill-requires
 unfolding count
@@ -48,7 +40,8 @@ fill-requires c κs =
     let past = c .before .before .before in
     let k = known past in
     let kind = past .before .before .before .args .kind in
-    (omega (arith, c .before .before .faces-of .ensures, faces-some kind, faces-most kind, k .taken), (omega arith, rw (c .before .before .faces-of .ensures, c .before .top-level .ensures, add-one) (k .room)))
+    let faces = c .before .before .faces-of .ensures in
+    (omega (arith, faces, faces-some kind, faces-most kind, k .taken), (omega arith, rw (faces, c .before .top-level .ensures, add-one) (k .room)))
 
 count-of-requires : tie.Need-count-of-requires
 count-of-requires c κs =
@@ -59,14 +52,13 @@ same-length : tie.Need-same-length
 same-length c = search needs
 
 returns-2 : tie.Need-returns-2
-unfolding chainAnswer chainLeaves filledOf
+unfolding filledOf
 returns-2 c =
     let past = c .before .before .before .before .before .before .before in
-    let e = fine past in
-    let faces = c .before .before .before .before .before .before .faces-of .ensures in (
-      rw (c .count-of .ensures, faces) (sym (answer-given _ _ _ e)),
-      c .before .before .before .fill .ensures ∙ rw (faces, c .before .before .before .before .before .top-level .ensures, add-one) (sym (answer-given _ _ _ e)),
-    )
+    let faces = c .before .before .before .before .before .before .faces-of .ensures in
+    let top = c .before .before .before .before .before .top-level .ensures in
+    chain-goes _ _ _ _ (passed (past .before .chain-refusal .ensures) (past .if1 .left)) (rw (c .count-of .ensures, faces))
+    (c .before .before .before .fill .ensures ∙ rw (faces, top, add-one))
 
 pub generate-mipmaps-spec : {M : Type 1} → statement M
 generate-mipmaps-spec =

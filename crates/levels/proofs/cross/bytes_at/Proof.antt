@@ -1,5 +1,6 @@
-use Rattle.levels.specs.Crosses.{bytesAt}
+-- `levels::cross::bytes_at` meets its contract: the same four bytes. Assumes nothing.
 use borrow.Author.Needs.{needs}
+use Rattle.levels.specs.Crosses.{bytesAt}
 use Rattle.levels.proofs.cross.bytes_at.Statement.{statement}
 use Rattle.levels.proofs.cross.bytes_at.Tie as tie
 

@@ -1,3 +1,4 @@
+-- `levels::cross::column_of` meets its contract: each arm is its face. Assumes nothing.
 use borrow.Author.Tests.{ne-eqb}
 use Rattle.rules.specs.Cross.{columnOf}
 use Rattle.levels.proofs.cross.column_of.Statement.{statement}

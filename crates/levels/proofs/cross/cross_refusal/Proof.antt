@@ -1,9 +1,11 @@
+-- `levels::cross::cross_refusal` meets its contract: 10 is looked at before any product of the sides. Assumes nothing.
 use mathlib.Core.Path.{_≡_, sym, _∙_}
 use native.Mathlib.Omega.{arith}
+use borrow.Author.Needs.{needs}
 use Rattle.rules.specs.Refusals.{crossSidesRefusal, crossRefusal}
 use Rattle.rules.proofs.Refusing.{orElse-zero, orElse-given}
+use Rattle.levels.proofs.Passing.{passed}
 use Rattle.levels.proofs.Crosses.{cross-faces-sides, cross-most, faces-few}
-use borrow.Author.Needs.{needs}
 use Rattle.levels.proofs.cross.cross_refusal.Statement.{statement}
 use Rattle.levels.proofs.cross.cross_refusal.Tie as tie
 
@@ -17,8 +19,8 @@ returns c =
     e ∙ sym (orElse-given _ _ (λ z. c .if1 .taken (e ∙ z)))
 
 -- past the test the face sides are taken
-fine : (c : tie.Else1) → crossSidesRefusal (c .before .before .args .width) (c .before .before .args .height) ≡ 0
-fine c = sym (c .before .cross-sides-refusal .ensures) ∙ c .if1 .left
+fine : (c : tie.Else1) → let a = c .before .before .args in crossSidesRefusal (a .width) (a .height) ≡ 0
+fine c = passed (c .before .cross-sides-refusal .ensures) (c .if1 .left)
 
 mul-buffer-refusal : tie.Need-mul-buffer-refusal
 mul-buffer-refusal c = omega (arith, cross-most _ _ (cross-faces-sides _ _ (fine c)))
@@ -43,7 +45,9 @@ or-else-requires c κs = search needs
 
 returns-2 : tie.Need-returns-2
 unfolding crossRefusal
-returns-2 c = rw (c .or-else .ensures, c .before .before .buffer-refusal .ensures, c .before .buffer-refusal2 .ensures) (sym (orElse-zero _ _ (fine (c .before .before .before))))
+returns-2 c =
+    rw (c .or-else .ensures, c .before .before .buffer-refusal .ensures, c .before .buffer-refusal2 .ensures)
+    (sym (orElse-zero _ _ (fine (c .before .before .before))))
 
 pub cross-refusal-spec : {M : Type 1} → statement M
 cross-refusal-spec =

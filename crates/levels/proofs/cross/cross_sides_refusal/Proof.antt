@@ -1,6 +1,7 @@
+-- `levels::cross::cross_sides_refusal` meets its contract. Assumes nothing.
 use mathlib.Core.Path.{sym, _∙_}
-use Rattle.rules.specs.Refusals.{crossSidesRefusal}
 use borrow.Author.Needs.{needs}
+use Rattle.rules.specs.Refusals.{crossSidesRefusal}
 use Rattle.levels.proofs.cross.cross_sides_refusal.Statement.{statement}
 use Rattle.levels.proofs.cross.cross_sides_refusal.Tie as tie
 

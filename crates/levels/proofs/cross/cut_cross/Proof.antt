@@ -1,12 +1,11 @@
-use mathlib.Core.Path.{_≡_, sym, _∙_}
+-- `levels::cross::cut_cross` meets its contract: past the test both buffers have room, and the run is the six faces. Assumes nothing.
+use mathlib.Core.Path.{refl, _∙_}
 use native.Mathlib.Omega.{arith}
+use borrow.Author.Needs.{needs}
 use lib.ListN.{length}
-use Rattle.rules.specs.Refusals.{crossRefusal}
-use Rattle.rules.specs.Answers.{crossAnswer, crossLeaves}
-use Rattle.rules.proofs.Refusing.{answer-given, answer-refused}
 use Rattle.rules.proofs.RefusingCuts.{CrossCall, cross-facts}
 use Rattle.levels.proofs.Crosses.{faces-few, cross-is}
-use borrow.Author.Needs.{needs}
+use Rattle.levels.proofs.Passing.{passed, cross-stops, cross-goes}
 use Rattle.levels.proofs.cross.cut_cross.Statement.{statement}
 use Rattle.levels.proofs.cross.cut_cross.Tie as tie
 
@@ -14,20 +13,11 @@ cross-refusal-requires : tie.Need-cross-refusal-requires
 cross-refusal-requires c κs = search needs
 
 returns : tie.Need-returns
-unfolding crossAnswer crossLeaves
-returns c =
-    let e = c .before .cross-refusal .ensures in
-    (rw e (sym (answer-refused _ _ _ (λ z. c .if1 .taken (e ∙ z)))), sym (answer-refused _ _ _ (λ z. c .if1 .taken (e ∙ z))))
+returns c = cross-stops _ _ _ _ (c .before .cross-refusal .ensures) (c .if1 .taken)
 
 -- past the test nothing is refused
-fine : (c : tie.Else1)
-    → crossRefusal (c .before .before .before .before .args .width) (c .before .before .before .before .args .height) (length (c .before .before .before .before .args .bytes .now)) (length (c .before .before .before .before .args .faces .now))
-    ≡ 0
-fine c = sym (c .before .cross-refusal .ensures) ∙ c .if1 .left
-
-known : (c : tie.Else1)
-    → CrossCall (c .before .before .before .before .args .width) (c .before .before .before .before .args .height) (length (c .before .before .before .before .args .bytes .now)) (length (c .before .before .before .before .args .faces .now))
-known c = cross-facts _ _ _ _ (fine c)
+known : (c : tie.Else1) → let a = c .before .before .before .before .args in CrossCall (a .width) (a .height) (length (a .bytes .now)) (length (a .faces .now))
+known c = cross-facts _ _ _ _ (passed (c .before .cross-refusal .ensures) (c .if1 .left))
 
 write-faces-requires : tie.Need-write-faces-requires
 write-faces-requires c κs =
@@ -44,10 +34,9 @@ same-length : tie.Need-same-length
 same-length c = search needs
 
 returns-2 : tie.Need-returns-2
-unfolding crossAnswer crossLeaves
 returns-2 c =
-    let e = fine (c .before .before .before .before) in
-    (sym (answer-given _ _ _ e), c .before .before .write-faces .ensures ∙ cross-is _ _ _ _ ∙ sym (answer-given _ _ _ e))
+    let past = c .before .before .before .before in
+    cross-goes _ _ _ _ (passed (past .before .cross-refusal .ensures) (past .if1 .left)) refl (c .before .before .write-faces .ensures ∙ cross-is _ _ _ _)
 
 pub cut-cross-spec : {M : Type 1} → statement M
 cut-cross-spec =

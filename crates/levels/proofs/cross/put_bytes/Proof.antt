@@ -1,7 +1,7 @@
-use mathlib.Core.Path.{_≡_, refl}
+-- `levels::cross::put_bytes` meets its contract. The invariant: x texels stand from `to` on. The measure is what is left. Assumes nothing.
+use mathlib.Core.Path.{refl}
 use Prim.Native.Nat.{_+_, _-_, _≤_}
 use native.Mathlib.Omega.{arith}
-use lib.ListN.{length}
 use Rattle.kinds.proofs.Runs.{Over, over-first, over-set, over-end}
 use Rattle.levels.specs.Crosses.{bytesAt}
 use Rattle.levels.proofs.cross.put_bytes.Statement.{statement}

@@ -1,3 +1,4 @@
+-- `levels::cross::row_of` meets its contract: each arm is its face. Assumes nothing.
 use borrow.Author.Tests.{ne-eqb}
 use Rattle.rules.specs.Cross.{rowOf}
 use Rattle.levels.proofs.cross.row_of.Statement.{statement}

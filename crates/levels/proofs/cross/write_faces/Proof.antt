@@ -1,9 +1,10 @@
--- The invariant: y rows are written. Assumes nothing.
+-- `levels::cross::write_faces` meets its contract. The invariant: y rows are written. The measure is what is left. Assumes nothing.
 use mathlib.Core.Path.{refl}
-use Prim.Native.Nat.{_*_, _-_}
+use Prim.Native.Nat.{_/_, _*_, _-_}
 use native.Mathlib.Omega.{arith}
 use borrow.Author.Needs.{needs}
-use Rattle.levels.proofs.Crosses.{FaceRows, faces-first, faces-place, faces-more, faces-end}
+use Rattle.rules.specs.Cross.{crossHeight, columnOf}
+use Rattle.levels.proofs.Crosses.{FaceRow, FaceRows, faces-first, faces-place, faces-more, faces-end}
 use Rattle.levels.proofs.cross.write_faces.Statement.{statement}
 use Rattle.levels.proofs.cross.write_faces.Tie as tie
 
@@ -27,35 +28,49 @@ div-face c = omega arith
 row-of-requires : tie.Need-row-of-requires Inv-loop μ-loop
 row-of-requires c κs = search needs
 
+-- where the row is read and where it goes
+row : (c : tie.After-row-of Inv-loop μ-loop)
+    → let a = c .before .before .before .before .before .args in
+    let y = c .before .before .loop .y in
+    FaceRow (a .width) (a .height) y (c .row-of .result) (columnOf (y / crossHeight (a .height))) (a .bytes .now) (a .faces .now)
+row c = faces-place (c .before .before .loop .inv) (c .before .loop-test .taken) (c .row-of .ensures) refl
+
 mul-row : tie.Need-mul-row Inv-loop μ-loop
-mul-row c = omega (arith, faces-place (c .before .before .loop .inv) (c .before .loop-test .taken) (c .row-of .ensures) refl)
+mul-row c = omega (arith, row c)
 
 rem-row : tie.Need-rem-row Inv-loop μ-loop
 rem-row c = omega arith
 
 add-row : tie.Need-add-row Inv-loop μ-loop
-add-row c = omega (arith, faces-place (c .before .before .loop .inv) (c .before .loop-test .taken) (c .row-of .ensures) refl)
+add-row c = omega (arith, row c)
 
 mul-put-bytes : tie.Need-mul-put-bytes Inv-loop μ-loop
-mul-put-bytes c = omega (arith, faces-place (c .before .before .loop .inv) (c .before .loop-test .taken) (c .row-of .ensures) refl)
+mul-put-bytes c = omega (arith, row c)
 
 column-of-requires : tie.Need-column-of-requires Inv-loop μ-loop
 column-of-requires c κs = search needs
 
+place : (c : tie.After-column-of Inv-loop μ-loop)
+    → let a = c .before .before .before .before .before .before .args in
+    FaceRow (a .width) (a .height) (c .before .before .before .loop .y) (c .before .row-of .result) (c .column-of .result) (a .bytes .now) (a .faces .now)
+place c =
+    let r = c .before in
+    faces-place (r .before .before .loop .inv) (r .before .loop-test .taken) (r .row-of .ensures) (c .column-of .ensures)
+
 mul-put-bytes-2 : tie.Need-mul-put-bytes-2 Inv-loop μ-loop
-mul-put-bytes-2 c = omega (arith, faces-place (c .before .before .before .loop .inv) (c .before .before .loop-test .taken) (c .before .row-of .ensures) (c .column-of .ensures))
+mul-put-bytes-2 c = omega (arith, place c)
 
 add-put-bytes : tie.Need-add-put-bytes Inv-loop μ-loop
-add-put-bytes c = omega (arith, faces-place (c .before .before .before .loop .inv) (c .before .before .loop-test .taken) (c .before .row-of .ensures) (c .column-of .ensures))
+add-put-bytes c = omega (arith, place c)
 
 mul-put-bytes-3 : tie.Need-mul-put-bytes-3 Inv-loop μ-loop
-mul-put-bytes-3 c = omega (arith, faces-place (c .before .before .before .loop .inv) (c .before .before .loop-test .taken) (c .before .row-of .ensures) (c .column-of .ensures))
+mul-put-bytes-3 c = omega (arith, place c)
 
 put-bytes-requires : tie.Need-put-bytes-requires Inv-loop μ-loop
-put-bytes-requires c κs = omega (arith, faces-place (c .before .before .before .before .loop .inv) (c .before .before .before .loop-test .taken) (c .before .before .row-of .ensures) (c .before .column-of .ensures))
+put-bytes-requires c κs = omega (arith, place (c .before))
 
 add-y : tie.Need-add-y Inv-loop μ-loop
-add-y c = omega (arith, faces-place (c .before .before .before .before .before .before .before .loop .inv) (c .before .before .before .before .before .before .loop-test .taken) (c .before .before .before .before .before .row-of .ensures) (c .before .before .before .before .column-of .ensures))
+add-y c = omega (arith, place (c .before .before .before .before))
 
 loop-less : tie.Need-loop-less Inv-loop μ-loop
 loop-less c = omega arith
@@ -63,7 +78,8 @@ loop-less c = omega arith
 loop-again : tie.Need-loop-again Inv-loop μ-loop
 loop-again c =
     let turn = c .before .before .before .before in
-    faces-more (turn .before .before .before .loop .inv) (turn .before .before .loop-test .taken) _ (turn .before .row-of .ensures) (turn .column-of .ensures) (c .before .before .put-bytes .ensures)
+    let r = turn .before in
+    faces-more (r .before .before .loop .inv) (r .before .loop-test .taken) _ (r .row-of .ensures) (turn .column-of .ensures) (c .before .before .put-bytes .ensures)
 
 same-length : tie.Need-same-length Inv-loop μ-loop
 same-length c = c .before .loop .inv .rows .run .as-long

@@ -1,7 +1,8 @@
+-- `levels::cut::along` meets its contract: test by test. Assumes nothing.
 use mathlib.Core.Path.{sym, _∙_}
 use borrow.Author.Tests.{eq-eqb, ne-eqb, le-leb, lt-leb}
-use Rattle.levels.specs.Cuts.{along}
 use borrow.Author.Needs.{needs}
+use Rattle.levels.specs.Cuts.{along}
 use Rattle.levels.proofs.cut.along.Statement.{statement}
 use Rattle.levels.proofs.cut.along.Tie as tie
 
@@ -24,11 +25,17 @@ multiple-requires-2 c κs = search needs
 
 returns-3 : tie.Need-returns-3
 unfolding along
-returns-3 c = rw (ne-eqb _ _ (c .before .before .before .before .if1 .left), le-leb _ _ (c .before .before .before .if2 .left), sym (c .before .before .multiple .ensures) ∙ c .before .if3 .taken) (c .multiple2 .ensures)
+returns-3 c =
+    let inside = c .before .before .before in
+    let corner = sym (c .before .before .multiple .ensures) ∙ c .before .if3 .taken in
+    rw (ne-eqb _ _ (inside .before .if1 .left), le-leb _ _ (inside .if2 .left), corner) (c .multiple2 .ensures)
 
 returns-4 : tie.Need-returns-4
 unfolding along
-returns-4 c = c .if3 .left ∙ rw (ne-eqb _ _ (c .before .before .before .if1 .left), le-leb _ _ (c .before .before .if2 .left), sym (c .before .multiple .ensures) ∙ c .if3 .left)
+returns-4 c =
+    let inside = c .before .before in
+    let corner = sym (c .before .multiple .ensures) ∙ c .if3 .left in
+    c .if3 .left ∙ rw (ne-eqb _ _ (inside .before .if1 .left), le-leb _ _ (inside .if2 .left), corner)
 
 pub along-spec : {M : Type 1} → statement M
 along-spec =

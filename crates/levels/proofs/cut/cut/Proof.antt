@@ -1,12 +1,11 @@
-use mathlib.Core.Path.{_≡_, sym, _∙_}
+-- `levels::cut::cut` meets its contract: past the test both buffers have room, and the run is the cut. Assumes nothing.
+use mathlib.Core.Path.{refl, _∙_}
 use native.Mathlib.Omega.{arith}
+use borrow.Author.Needs.{needs}
 use lib.ListN.{length}
-use Rattle.rules.specs.Refusals.{cutCallRefusal}
-use Rattle.rules.specs.Answers.{cutAnswer, cutLeaves}
-use Rattle.rules.proofs.Refusing.{answer-given, answer-refused}
 use Rattle.rules.proofs.RefusingCuts.{CutCall, cut-facts}
 use Rattle.levels.proofs.Cuts.{cut-is, cut-within, cut-few}
-use borrow.Author.Needs.{needs}
+use Rattle.levels.proofs.Passing.{passed, cut-stops, cut-goes}
 use Rattle.levels.proofs.cut.cut.Statement.{statement}
 use Rattle.levels.proofs.cut.cut.Tie as tie
 
@@ -14,25 +13,18 @@ cut-refusal-requires : tie.Need-cut-refusal-requires
 cut-refusal-requires c κs = search needs
 
 returns : tie.Need-returns
-unfolding cutAnswer cutLeaves
-returns c =
-    let e = c .before .cut-refusal .ensures in
-    (rw e (sym (answer-refused _ _ _ (λ z. c .if1 .taken (e ∙ z)))), sym (answer-refused _ _ _ (λ z. c .if1 .taken (e ∙ z))))
+returns c = cut-stops _ _ _ _ _ _ _ _ (c .before .cut-refusal .ensures) (c .if1 .taken)
 
 -- past the test nothing is refused
-fine : (c : tie.Else1)
-    → cutCallRefusal (c .before .before .before .before .args .kind) (c .before .before .before .before .args .width) (c .before .before .before .before .args .height) (length (c .before .before .before .before .args .source .now)) (c .before .before .before .before .args .order) (c .before .before .before .before .args .corner) (c .before .before .before .before .args .sides) (length (c .before .before .before .before .args .target .now))
-    ≡ 0
-fine c = sym (c .before .cut-refusal .ensures) ∙ c .if1 .left
-
 known : (c : tie.Else1)
-    → CutCall (c .before .before .before .before .args .kind) (c .before .before .before .before .args .width) (c .before .before .before .before .args .height) (length (c .before .before .before .before .args .source .now)) (c .before .before .before .before .args .order) (c .before .before .before .before .args .corner) (c .before .before .before .before .args .sides) (length (c .before .before .before .before .args .target .now))
-known c = cut-facts _ _ _ _ _ _ _ _ (fine c)
+    → let a = c .before .before .before .before .args in
+    CutCall (a .kind) (a .width) (a .height) (length (a .source .now)) (a .order) (a .corner) (a .sides) (length (a .target .now))
+known c = cut-facts _ _ _ _ _ _ _ _ (passed (c .before .cut-refusal .ensures) (c .if1 .left))
 
 write-cut-requires : tie.Need-write-cut-requires
 write-cut-requires c κs =
     let k = known (c .before) in
-    (k .cutting .at .inside-w, cut-within k, k .room)
+    (k .cutting .at .inside-w, (cut-within k, k .room))
 
 cast-t11 : tie.Need-cast-t11
 cast-t11 c = search needs
@@ -47,12 +39,11 @@ same-length : tie.Need-same-length
 same-length c = search needs
 
 returns-2 : tie.Need-returns-2
-unfolding cutAnswer cutLeaves
 returns-2 c =
     let past = c .before .before .before .before .before .before in
-    let e = fine past in
-    let k = known past in
-    (sym (answer-given _ _ _ e), c .before .before .before .before .write-cut .ensures ∙ cut-is _ _ _ _ _ _ _ _ (k .cutting .at .some-w) (k .cutting .at .some-h) ∙ sym (answer-given _ _ _ e))
+    let at = known past .cutting .at in
+    cut-goes _ _ _ _ _ _ _ _ (passed (past .before .cut-refusal .ensures) (past .if1 .left)) refl
+    (c .before .before .before .before .write-cut .ensures ∙ cut-is _ _ _ _ _ _ _ _ (at .some-w) (at .some-h))
 
 pub cut-spec : {M : Type 1} → statement M
 cut-spec =

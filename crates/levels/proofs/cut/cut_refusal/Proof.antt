@@ -1,12 +1,14 @@
-use Prim.Native.Nat.{_≤_}
+-- `levels::cut::cut_refusal` meets its contract: the picture is looked at before any product of its sides. Assumes nothing.
 use mathlib.Core.Path.{_≡_, sym, _∙_}
+use Prim.Native.Nat.{_≤_}
 use native.Mathlib.Nat.{mul-le-mul}
 use native.Mathlib.Omega.{arith}
+use borrow.Author.Needs.{needs}
 use Rattle.rules.specs.Refusals.{pictureRefusal, cutCallRefusal}
 use Rattle.rules.proofs.Refusing.{orElse-zero, picture-facts}
 use Rattle.rules.proofs.RefusingCuts.{cut-picture}
 use Rattle.rules.proofs.Bounds.{faces-most, taken-level0}
-use borrow.Author.Needs.{needs}
+use Rattle.levels.proofs.Passing.{passed}
 use Rattle.levels.proofs.cut.cut_refusal.Statement.{statement}
 use Rattle.levels.proofs.cut.cut_refusal.Tie as tie
 
@@ -22,13 +24,14 @@ faces-of-requires : tie.Need-faces-of-requires
 faces-of-requires c κs = search needs
 
 -- past the test the picture is taken
-fine : (c : tie.Else1) → pictureRefusal (c .before .before .args .kind) (c .before .before .args .width) (c .before .before .args .height) ≡ 0
-fine c = sym (c .before .picture-refusal .ensures) ∙ c .if1 .left
+fine : (c : tie.Else1) → let a = c .before .before .args in pictureRefusal (a .kind) (a .width) (a .height) ≡ 0
+fine c = passed (c .before .picture-refusal .ensures) (c .if1 .left)
 
 mul-level0 : tie.Need-mul-level0
 mul-level0 c =
     let k = picture-facts _ _ _ (fine (c .before)) in
-    rw (c .faces-of .ensures) (omega (arith, mul-le-mul {n₂ = 6} (faces-most (c .before .before .before .args .kind)) (k .most-h)))
+    let faces = faces-most (c .before .before .before .args .kind) in
+    rw (c .faces-of .ensures) (omega (arith, mul-le-mul {n₂ = 6} faces (k .most-h)))
 
 mul-level0-2 : tie.Need-mul-level0-2
 mul-level0-2 c = rw (c .faces-of .ensures) (omega (arith, taken-level0 (picture-facts _ _ _ (fine (c .before)))))
@@ -70,9 +73,22 @@ or-else-requires-3 c κs = search needs
 returns-2 : tie.Need-returns-2
 unfolding cutCallRefusal
 returns-2 c =
-    let r = c .before .before .before .before .before .before in
-    rw (c .or-else3 .ensures, r .buffer-refusal .ensures, r .before .before .before .faces-of .ensures, c .before .or-else2 .ensures, c .before .before .before .before .before .no-cubemap-refusal .ensures, c .before .before .or-else .ensures, c .before .before .before .before .place-refusal .ensures, c .before .before .before .buffer-refusal2 .ensures)
-    (sym (orElse-zero _ _ (fine (r .before .before .before .before))))
+    let target = c .before .before .before in
+    let place = target .before in
+    let kind = place .before in
+    let source = kind .before in
+    let faces = source .before .before .before in
+    rw (
+      c .or-else3 .ensures,
+      source .buffer-refusal .ensures,
+      faces .faces-of .ensures,
+      c .before .or-else2 .ensures,
+      kind .no-cubemap-refusal .ensures,
+      c .before .before .or-else .ensures,
+      place .place-refusal .ensures,
+      target .buffer-refusal2 .ensures,
+    )
+    (sym (orElse-zero _ _ (fine (faces .before))))
 
 pub cut-refusal-spec : {M : Type 1} → statement M
 cut-refusal-spec =

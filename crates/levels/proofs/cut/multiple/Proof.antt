@@ -1,7 +1,7 @@
-use native.Mathlib.Omega.{arith}
+-- `levels::cut::multiple` meets its contract: 1 shifted left by the order is 2^order. Assumes nothing.
+use borrow.Author.Needs.{needs}
 use lib.Pow.{pow-pos}
 use Rattle.levels.proofs.Cuts.{one-shl}
-use borrow.Author.Needs.{needs}
 use Rattle.levels.proofs.cut.multiple.Statement.{statement}
 use Rattle.levels.proofs.cut.multiple.Tie as tie
 

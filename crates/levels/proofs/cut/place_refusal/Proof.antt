@@ -1,10 +1,11 @@
-use mathlib.Core.Bool.{true, false, false≢true}
+-- `levels::cut::place_refusal` meets its contract: both sides are taken exactly where the cut is. Assumes nothing.
+use mathlib.Core.Bool.{false≢true}
 use mathlib.Core.Logic.{⊎-elim}
 use mathlib.Core.Path.{sym, _∙_}
 use native.Mathlib.Omega.{arith}
+use borrow.Author.Needs.{needs}
 use Rattle.rules.proofs.RefusingCuts.{cutting-taken, cutting-refused}
 use Rattle.levels.proofs.Cuts.{sides-cutting, cutting-x, cutting-y}
-use borrow.Author.Needs.{needs}
 use Rattle.levels.proofs.cut.place_refusal.Statement.{statement}
 use Rattle.levels.proofs.cut.place_refusal.Tie as tie
 
@@ -18,7 +19,13 @@ along-requires-2 : tie.Need-along-requires-2
 along-requires-2 c κs = search needs
 
 returns-2 : tie.Need-returns-2
-returns-2 c = sym (cutting-taken _ _ _ _ _ (sides-cutting _ _ _ _ _ _ _ (c .before .before .before .before .if1 .left) (sym (c .before .before .before .along .ensures) ∙ c .before .before .if2 .taken) (sym (c .before .along2 .ensures) ∙ c .if3 .taken)))
+returns-2 c =
+    let x = c .before .before .before in
+    sym
+    (cutting-taken _ _ _ _ _
+    (sides-cutting _ _ _ _ _ _ _ (x .before .if1 .left)
+    (sym (x .along .ensures) ∙ c .before .before .if2 .taken)
+    (sym (c .before .along2 .ensures) ∙ c .if3 .taken)))
 
 returns-3 : tie.Need-returns-3
 returns-3 c =

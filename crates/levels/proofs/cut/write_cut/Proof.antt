@@ -1,9 +1,8 @@
--- The invariant: y rows are written. Assumes nothing.
-use Rattle.levels.proofs.Cuts.{cut-row}
+-- `levels::cut::write_cut` meets its contract. The invariant: y rows are written. The measure is what is left. Assumes nothing.
 use Prim.Native.Nat.{_-_}
 use native.Mathlib.Omega.{arith}
 use borrow.Author.Needs.{needs}
-use Rattle.levels.proofs.Cuts.{CutRows, cut-first, cut-reads, cut-goes, cut-more, cut-end}
+use Rattle.levels.proofs.Cuts.{cut-row, CutRows, cut-first, cut-reads, cut-room, cut-more, cut-end}
 use Rattle.levels.proofs.cut.write_cut.Statement.{statement}
 use Rattle.levels.proofs.cut.write_cut.Tie as tie
 
@@ -28,7 +27,7 @@ cast-rows c = search needs
 loop-holds : tie.Need-loop-holds Inv-loop μ-loop
 loop-holds c =
     let p = c .before .before .before .before .before .before .pre in
-    cut-first _ _ _ _ _ _ _ (p .0) (p .1) (p .2)
+    cut-first _ _ _ _ _ _ _ (p .0) (p .1 .0) (p .1 .1)
 
 add-from : tie.Need-add-from Inv-loop μ-loop
 add-from c = omega (arith, cut-reads (c .before .loop .inv) (c .loop-test .taken))
@@ -40,7 +39,7 @@ add-from-2 : tie.Need-add-from-2 Inv-loop μ-loop
 add-from-2 c = omega (arith, cut-reads (c .before .loop .inv) (c .loop-test .taken))
 
 mul-put : tie.Need-mul-put Inv-loop μ-loop
-mul-put c = omega (arith, cut-goes (c .before .loop .inv) (c .loop-test .taken))
+mul-put c = omega (arith, cut-room (c .before .loop .inv) (c .loop-test .taken))
 
 mul-put-2 : tie.Need-mul-put-2 Inv-loop μ-loop
 mul-put-2 c = omega (arith, cut-reads (c .before .loop .inv) (c .loop-test .taken))
@@ -56,8 +55,9 @@ part-put-end c = search needs
 
 put-requires : tie.Need-put-requires Inv-loop μ-loop
 put-requires c κs =
-    let turn = c .before .before in
-    (cut-row (turn .before .loop .inv) (turn .loop-test .taken), omega (arith, turn .before .loop .inv .rows .run, cut-goes (turn .before .loop .inv) (turn .loop-test .taken)))
+    let rows = c .before .before .before .loop .inv in
+    let below = c .before .before .loop-test .taken in
+    (cut-row rows below, omega (arith, rows .rows .run, cut-room rows below))
 
 add-y : tie.Need-add-y Inv-loop μ-loop
 add-y c = omega arith

@@ -1,3 +1,4 @@
+-- `levels::refusals::buffer_refusal` meets its contract. Assumes nothing.
 use mathlib.Core.Path.{sym}
 use Rattle.rules.proofs.Refusing.{buffer-taken, buffer-refused}
 use Rattle.levels.proofs.refusals.buffer_refusal.Statement.{statement}

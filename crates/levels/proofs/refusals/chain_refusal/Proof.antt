@@ -1,9 +1,11 @@
-use Rattle.rules.proofs.Bounds.{faces-most}
+-- `levels::refusals::chain_refusal` meets its contract: the picture is looked at before its chain is counted. Assumes nothing.
 use mathlib.Core.Path.{_≡_, sym, _∙_}
 use native.Mathlib.Omega.{arith}
-use Rattle.rules.specs.Refusals.{pictureRefusal, chainRefusal}
-use Rattle.rules.proofs.Refusing.{orElse-zero, picture-facts, chain-picture}
 use borrow.Author.Needs.{needs}
+use Rattle.rules.specs.Refusals.{pictureRefusal, chainRefusal}
+use Rattle.rules.proofs.Bounds.{faces-most}
+use Rattle.rules.proofs.Refusing.{orElse-zero, picture-facts, chain-picture}
+use Rattle.levels.proofs.Passing.{passed}
 use Rattle.levels.proofs.refusals.chain_refusal.Statement.{statement}
 use Rattle.levels.proofs.refusals.chain_refusal.Tie as tie
 
@@ -19,8 +21,8 @@ faces-of-requires : tie.Need-faces-of-requires
 faces-of-requires c κs = search needs
 
 -- past the test the picture is taken
-fine : (c : tie.Else1) → pictureRefusal (c .before .before .args .kind) (c .before .before .args .width) (c .before .before .args .height) ≡ 0
-fine c = sym (c .before .picture-refusal .ensures) ∙ c .if1 .left
+fine : (c : tie.Else1) → let a = c .before .before .args in pictureRefusal (a .kind) (a .width) (a .height) ≡ 0
+fine c = passed (c .before .picture-refusal .ensures) (c .if1 .left)
 
 count-of-requires : tie.Need-count-of-requires
 count-of-requires c κs =
@@ -32,7 +34,9 @@ buffer-refusal-requires c κs = search needs
 
 returns-2 : tie.Need-returns-2
 unfolding chainRefusal
-returns-2 c = rw (c .buffer-refusal .ensures, c .before .count-of .ensures, c .before .before .faces-of .ensures) (sym (orElse-zero _ _ (fine (c .before .before .before))))
+returns-2 c =
+    rw (c .buffer-refusal .ensures, c .before .count-of .ensures, c .before .before .faces-of .ensures)
+    (sym (orElse-zero _ _ (fine (c .before .before .before))))
 
 pub chain-refusal-spec : {M : Type 1} → statement M
 chain-refusal-spec =

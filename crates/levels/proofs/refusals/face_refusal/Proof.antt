@@ -1,7 +1,8 @@
+-- `levels::refusals::face_refusal` meets its contract. Assumes nothing.
 use mathlib.Core.Path.{sym}
 use native.Mathlib.Omega.{arith}
-use Rattle.rules.proofs.Refusing.{face-taken, face-refused}
 use borrow.Author.Needs.{needs}
+use Rattle.rules.proofs.Refusing.{face-taken, face-refused}
 use Rattle.levels.proofs.refusals.face_refusal.Statement.{statement}
 use Rattle.levels.proofs.refusals.face_refusal.Tie as tie
 

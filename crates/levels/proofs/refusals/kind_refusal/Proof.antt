@@ -1,3 +1,4 @@
+-- `levels::refusals::kind_refusal` meets its contract. Assumes nothing.
 use mathlib.Core.Path.{sym}
 use native.Mathlib.Omega.{arith}
 use Rattle.rules.proofs.Refusing.{kind-taken, kind-refused}

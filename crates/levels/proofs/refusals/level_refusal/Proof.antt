@@ -1,7 +1,8 @@
+-- `levels::refusals::level_refusal` meets its contract. Assumes nothing.
 use mathlib.Core.Path.{sym}
 use native.Mathlib.Omega.{arith}
-use Rattle.rules.proofs.Refusing.{level-taken, level-refused}
 use borrow.Author.Needs.{needs}
+use Rattle.rules.proofs.Refusing.{level-taken, level-refused}
 use Rattle.levels.proofs.refusals.level_refusal.Statement.{statement}
 use Rattle.levels.proofs.refusals.level_refusal.Tie as tie
 

@@ -1,3 +1,4 @@
+-- `levels::refusals::no_cubemap_refusal` meets its contract. Assumes nothing.
 use mathlib.Core.Path.{sym}
 use Rattle.rules.proofs.Refusing.{flat-taken, flat-refused}
 use Rattle.levels.proofs.refusals.no_cubemap_refusal.Statement.{statement}

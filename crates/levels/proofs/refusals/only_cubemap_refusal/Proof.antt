@@ -1,3 +1,4 @@
+-- `levels::refusals::only_cubemap_refusal` meets its contract. Assumes nothing.
 use mathlib.Core.Path.{sym}
 use Rattle.rules.proofs.Refusing.{cube-taken, cube-refused}
 use Rattle.levels.proofs.refusals.only_cubemap_refusal.Statement.{statement}

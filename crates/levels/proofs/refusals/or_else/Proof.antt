@@ -1,3 +1,4 @@
+-- `levels::refusals::or_else` meets its contract. Assumes nothing.
 use mathlib.Core.Path.{sym}
 use Rattle.rules.proofs.Refusing.{orElse-zero, orElse-given}
 use Rattle.levels.proofs.refusals.or_else.Statement.{statement}

@@ -1,5 +1,6 @@
-use Rattle.rules.specs.Refusals.{pictureRefusal}
+-- `levels::refusals::picture_refusal` meets its contract. Assumes nothing.
 use borrow.Author.Needs.{needs}
+use Rattle.rules.specs.Refusals.{pictureRefusal}
 use Rattle.levels.proofs.refusals.picture_refusal.Statement.{statement}
 use Rattle.levels.proofs.refusals.picture_refusal.Tie as tie
 

@@ -1,3 +1,4 @@
+-- `levels::refusals::side_taken` meets its contract: test by test. Assumes nothing.
 use borrow.Author.Tests.{le-leb, lt-leb}
 use Rattle.levels.proofs.refusals.side_taken.Statement.{statement}
 use Rattle.levels.proofs.refusals.side_taken.Tie as tie

@@ -1,6 +1,7 @@
+-- `levels::refusals::sides_refusal` meets its contract. Assumes nothing.
 use mathlib.Core.Path.{sym, _∙_}
-use Rattle.rules.specs.Refusals.{sidesRefusal}
 use borrow.Author.Needs.{needs}
+use Rattle.rules.specs.Refusals.{sidesRefusal}
 use Rattle.levels.proofs.refusals.sides_refusal.Statement.{statement}
 use Rattle.levels.proofs.refusals.sides_refusal.Tie as tie
 

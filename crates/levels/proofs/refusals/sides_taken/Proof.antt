@@ -1,3 +1,4 @@
+-- `levels::refusals::sides_taken` meets its contract: test by test. Assumes nothing.
 use mathlib.Core.Path.{sym, _∙_}
 use borrow.Author.Needs.{needs}
 use Rattle.levels.proofs.refusals.sides_taken.Statement.{statement}

@@ -1,10 +1,9 @@
-use Rattle.rules.proofs.Bounds.{top-most}
-use mathlib.Core.Path.{ap, _∙_}
-use Prim.Native.Nat.{_+_}
+-- `levels::sizes::count_of` meets its contract: the top level is at most 12. Assumes nothing.
 use native.Mathlib.Numerals.{add-one}
 use native.Mathlib.Omega.{arith}
 use borrow.Author.Needs.{needs}
-use Rattle.rules.specs.Sizes.{start, count}
+use Rattle.rules.specs.Sizes.{count}
+use Rattle.rules.proofs.Bounds.{top-most}
 use Rattle.levels.proofs.sizes.count_of.Statement.{statement}
 use Rattle.levels.proofs.sizes.count_of.Tie as tie
 

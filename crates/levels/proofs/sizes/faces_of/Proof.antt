@@ -1,3 +1,4 @@
+-- `levels::sizes::faces_of` meets its contract: each arm is its kind. Assumes nothing.
 use borrow.Author.Tests.{ne-eqb}
 use Rattle.rules.specs.Kinds.{facesOf}
 use Rattle.levels.proofs.sizes.faces_of.Statement.{statement}

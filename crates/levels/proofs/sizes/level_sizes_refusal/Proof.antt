@@ -1,5 +1,6 @@
-use Rattle.rules.specs.Refusals.{levelSizesRefusal}
+-- `levels::sizes::level_sizes_refusal` meets its contract. Assumes nothing.
 use borrow.Author.Needs.{needs}
+use Rattle.rules.specs.Refusals.{levelSizesRefusal}
 use Rattle.levels.proofs.sizes.level_sizes_refusal.Statement.{statement}
 use Rattle.levels.proofs.sizes.level_sizes_refusal.Tie as tie
 

@@ -1,6 +1,6 @@
--- The highest set digit of n, which `leading-top` gives, is floor(log2 n). Assumes nothing.
+-- `levels::sizes::log2` meets its contract: the highest set digit of n, which `leading-top` gives, is floor(log2 n). Assumes nothing.
+use mathlib.Core.Path.{sym}
 use native.Mathlib.Omega.{arith}
-use mathlib.Core.Path.{sym, ap, _∙_}
 use lib.Count.{leading-top}
 use Rattle.rules.proofs.Sides.{log2-small, log2-unique}
 use Rattle.levels.proofs.sizes.log2.Statement.{statement}

@@ -1,3 +1,4 @@
+-- `levels::sizes::side_at` meets its contract. Assumes nothing.
 use native.Mathlib.Omega.{arith}
 use borrow.Author.Needs.{needs}
 use Rattle.rules.specs.Sizes.{sideAt}

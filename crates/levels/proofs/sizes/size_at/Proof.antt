@@ -1,3 +1,4 @@
+-- `levels::sizes::size_at` meets its contract: no product wraps. Assumes nothing.
 use native.Mathlib.Nat.{mul-le-mul}
 use native.Mathlib.Omega.{arith}
 use borrow.Author.Needs.{needs}
@@ -14,8 +15,9 @@ cast-result c = search needs
 
 mul-result : tie.Need-mul-result
 mul-result c =
-    let start = c .before in
-    rw (c .side-at .ensures) (omega (arith, mul-le-mul (start .pre .0) (side-most (start .args .level) (start .args .height) (start .pre .2))))
+    let a = c .before .args in
+    let p = c .before .pre in
+    rw (c .side-at .ensures) (omega (arith, mul-le-mul (p .0) (side-most (a .level) (a .height) (p .2))))
 
 side-at-requires-2 : tie.Need-side-at-requires-2
 side-at-requires-2 c κs = search needs
@@ -29,8 +31,9 @@ returns c = rw (c .before .side-at .ensures, c .side-at2 .ensures)
 
 mul-result-2 : tie.Need-mul-result-2
 mul-result-2 c =
-    let start = c .before .before in
-    rw (returns c) (omega (arith, size-most (start .args .faces) (start .args .width) (start .args .height) (start .pre .0) (start .pre .1) (start .pre .2) (start .args .level)))
+    let a = c .before .before .args in
+    let p = c .before .before .pre in
+    rw (returns c) (omega (arith, size-most (a .faces) (a .width) (a .height) (p .0) (p .1) (p .2) (a .level)))
 
 pub size-at-spec : {M : Type 1} → statement M
 size-at-spec =

@@ -1,4 +1,4 @@
--- The invariant: `at` is where level m starts. The measure is the levels left. Assumes nothing.
+-- `levels::sizes::start_of` meets its contract. The invariant: `at` is where level m starts. The measure is the levels left. Assumes nothing.
 use mathlib.Core.Path.{_≡_}
 use Prim.Native.Nat.{_≤_, _-_}
 use native.Mathlib.Omega.{arith}
@@ -26,7 +26,10 @@ add-at : tie.Need-add-at Inv-loop μ-loop
 add-at c =
     let a = c .before .before .before .args in
     let p = c .before .before .before .pre in
-    omega (arith, start-most (a .faces) (a .width) (a .height) (p .0) (p .1) (p .2) (c .before .before .loop .m), size-most (a .faces) (a .width) (a .height) (p .0) (p .1) (p .2) (c .before .before .loop .m))
+    let m = c .before .before .loop .m in
+    let before = start-most (a .faces) (a .width) (a .height) (p .0) (p .1) (p .2) m in
+    let here = size-most (a .faces) (a .width) (a .height) (p .0) (p .1) (p .2) m in
+    omega arith
 
 add-m : tie.Need-add-m Inv-loop μ-loop
 add-m c = omega arith

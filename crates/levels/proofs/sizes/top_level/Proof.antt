@@ -1,3 +1,4 @@
+-- `levels::sizes::top_level` meets its contract. Assumes nothing.
 use mathlib.Core.Path.{_∙_, ap}
 use borrow.Author.Needs.{needs}
 use Rattle.rules.specs.Sizes.{log2, top}

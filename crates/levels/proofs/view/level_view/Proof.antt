@@ -1,11 +1,11 @@
-use mathlib.Core.Path.{_≡_, sym, _∙_}
+-- `levels::view::level_view` meets its contract: past the test level sizes are answered, and the face that they place ends within the buffer. Assumes nothing.
+use mathlib.Core.Path.{sym, _∙_}
 use native.Mathlib.Omega.{arith}
-use lib.ListN.{length}
-use Rattle.rules.specs.Refusals.{viewRefusal}
-use Rattle.rules.specs.Answers.{viewAnswer}
-use Rattle.rules.proofs.Refusing.{Viewed, view-facts, answer-given, answer-refused}
-use Rattle.levels.proofs.Viewing.{Seen, seen, seen-part, not-refused}
 use borrow.Author.Needs.{needs}
+use lib.ListN.{length}
+use Rattle.rules.proofs.Refusing.{Viewed, view-facts}
+use Rattle.levels.proofs.Viewing.{Seen, seen, seen-part, not-refused}
+use Rattle.levels.proofs.Passing.{passed, view-stops, view-goes}
 use Rattle.levels.proofs.view.level_view.Statement.{statement}
 use Rattle.levels.proofs.view.level_view.Tie as tie
 
@@ -22,10 +22,7 @@ part-result-end : tie.Need-part-result-end
 part-result-end c = search needs
 
 returns : tie.Need-returns
-unfolding viewAnswer
-returns c =
-    let e = c .before .before .level-view-refusal .ensures in
-    sym (answer-refused _ _ _ (λ z. c .before .if1 .taken (e ∙ z)))
+returns c = view-stops _ _ _ _ _ _ (c .before .before .level-view-refusal .ensures) (c .before .if1 .taken)
 
 level-sizes-requires : tie.Need-level-sizes-requires
 level-sizes-requires c κs = search needs
@@ -46,14 +43,9 @@ part-result-end-2 : tie.Need-part-result-end-2
 part-result-end-2 c = search needs
 
 -- past the test nothing is refused
-fine : (c : tie.Else1)
-    → viewRefusal (c .before .before .before .args .kind) (c .before .before .before .args .width) (c .before .before .before .args .height) (length (c .before .before .before .args .texels .now)) (c .before .before .before .args .level) (c .before .before .before .args .face)
-    ≡ 0
-fine c = sym (c .before .level-view-refusal .ensures) ∙ c .if1 .left
-
 known : (c : tie.Else1)
-    → Viewed (c .before .before .before .args .kind) (c .before .before .before .args .width) (c .before .before .before .args .height) (length (c .before .before .before .args .texels .now)) (c .before .before .before .args .level) (c .before .before .before .args .face)
-known c = view-facts _ _ _ _ _ _ (fine c)
+    → let a = c .before .before .before .args in Viewed (a .kind) (a .width) (a .height) (length (a .texels .now)) (a .level) (a .face)
+known c = view-facts _ _ _ _ _ _ (passed (c .before .level-view-refusal .ensures) (c .if1 .left))
 
 returns-2 : tie.Need-returns-2
 returns-2 c = absurd (not-refused (known (c .before .before .before .before)) (sym (c .before .before .before .level-sizes .ensures) ∙ c .before .enum-told .given .1))
@@ -66,7 +58,9 @@ cast-size-2 c = search needs
 
 -- the start and sides that were answered
 sizes : (c : tie.After-start)
-    → Seen (c .before .before .before .before .before .before .args .kind) (c .before .before .before .before .before .before .args .width) (c .before .before .before .before .before .before .args .height) (length (c .before .before .before .before .before .before .args .texels .now)) (c .before .before .before .before .before .before .args .level) (c .before .before .before .before .before .before .args .face) (c .start .given .0 .0) (c .start .given .0 .1 .0) (c .start .given .0 .1 .1 .0)
+    → let a = c .before .before .before .before .before .before .args in
+    let at = c .start .given .0 in
+    Seen (a .kind) (a .width) (a .height) (length (a .texels .now)) (a .level) (a .face) (at .0) (at .1 .0) (at .1 .1 .0)
 sizes c = seen (known (c .before .before .before)) (sym (c .before .before .level-sizes .ensures) ∙ c .start .given .1)
 
 mul-size : tie.Need-mul-size
@@ -94,8 +88,9 @@ part-result-end-3 : tie.Need-part-result-end-3
 part-result-end-3 c = sizes (c .before) .ends
 
 returns-3 : tie.Need-returns-3
-unfolding viewAnswer
-returns-3 c = seen-part (sizes (c .before .before)) _ ∙ sym (answer-given _ _ _ (fine (c .before .before .before .before .before)))
+returns-3 c =
+    let past = c .before .before .before .before .before in
+    view-goes _ _ _ _ _ _ (passed (past .before .level-view-refusal .ensures) (past .if1 .left)) (seen-part (sizes (c .before .before)) _)
 
 pub level-view-spec : {M : Type 1} → statement M
 level-view-spec =

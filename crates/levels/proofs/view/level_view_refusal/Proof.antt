@@ -1,5 +1,6 @@
-use Rattle.rules.specs.Refusals.{viewRefusal}
+-- `levels::view::level_view_refusal` meets its contract. Assumes nothing.
 use borrow.Author.Needs.{needs}
+use Rattle.rules.specs.Refusals.{viewRefusal}
 use Rattle.levels.proofs.view.level_view_refusal.Statement.{statement}
 use Rattle.levels.proofs.view.level_view_refusal.Tie as tie
 
@@ -20,7 +21,16 @@ or-else-requires-2 c κs = search needs
 
 returns : tie.Need-returns
 unfolding viewRefusal
-returns c = rw (c .or-else2 .ensures, c .before .before .before .before .chain-refusal .ensures, c .before .or-else .ensures, c .before .before .before .face-refusal .ensures, c .before .before .level-refusal .ensures)
+returns c =
+    let level = c .before .before in
+    let face = level .before in
+    rw (
+      c .or-else2 .ensures,
+      face .before .chain-refusal .ensures,
+      c .before .or-else .ensures,
+      face .face-refusal .ensures,
+      level .level-refusal .ensures,
+    )
 
 pub level-view-refusal-spec : {M : Type 1} → statement M
 level-view-refusal-spec =

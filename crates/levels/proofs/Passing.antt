@@ -1,0 +1,87 @@
+-- A call works out its refusal number r and tests it. Where r is not 0 it is answered, and the buffer stays as found (`X-stops`);
+-- past the test nothing is refused, and the answer and the buffer are those of the work (`X-goes`). Assumes nothing.
+use mathlib.Core.Path.{_≡_, sym, ap, _∙_}
+use mathlib.Core.List.{List, [], _++_}
+use Prim.Native.Nat.{ℕ, _*_}
+use lib.ListN.{length, drop}
+use Rattle.rules.specs.declared.Pair.{Pair}
+use Rattle.rules.specs.declared.Filled.{Filled}
+use Rattle.rules.specs.declared.Filled.the-variants.{Texels, Refused}
+use Rattle.rules.specs.declared.Sizes.the-variants.{Level, Refused as NoSizes}
+use Rattle.rules.specs.Kinds.{facesOf}
+use Rattle.rules.specs.Sizes.{sideAt, start, count}
+use Rattle.rules.specs.Cuts.{cut}
+use Rattle.rules.specs.View.{faceView}
+use Rattle.rules.specs.Pictures.{filledOf}
+use Rattle.rules.specs.Cross.{crossWidth, crossHeight, crossOf}
+use Rattle.rules.specs.Refusals.{levelSizesRefusal, chainRefusal, viewRefusal, cutCallRefusal, crossRefusal}
+use Rattle.rules.specs.Answers.{answer, leaves, levelSizesAnswer, chainAnswer, chainLeaves, viewAnswer, cutAnswer, cutLeaves, crossAnswer, crossLeaves}
+use Rattle.rules.proofs.Refusing.{answer-given, answer-refused}
+
+pub passed : {r n : ℕ} → r ≡ n → r ≡ 0 → n ≡ 0
+passed e none = sym e ∙ none
+
+stops : {r n : ℕ} (given : Filled) (found made : List ℕ) → r ≡ n → (r ≡ 0 → ⊥)
+    → (Refused r ≡ answer n Refused given) × (found ≡ leaves n found made)
+stops {r} {n} given found made e some =
+    let other : n ≡ 0 → ⊥ = λ none. some (e ∙ none) in
+    (rw e (sym (answer-refused n Refused given other)), sym (answer-refused n (λ k. found) made other))
+
+goes : {m n : ℕ} {t : List ℕ} (n′ : ℕ) (found made : List ℕ) → m ≡ 0 → n ≡ n′ → t ≡ made
+    → (Texels n ≡ answer m Refused (Texels n′)) × (t ≡ leaves m found made)
+goes {m} n′ found made none en et =
+    (ap Texels en ∙ sym (answer-given m Refused (Texels n′) none), et ∙ sym (answer-given m (λ k. found) made none))
+
+module _ (kind w h m : ℕ) where
+  pub sizes-stops : {r : ℕ} → r ≡ levelSizesRefusal kind w h m → (r ≡ 0 → ⊥) → NoSizes r ≡ levelSizesAnswer kind w h m
+  unfolding levelSizesAnswer
+  sizes-stops e some = rw e (sym (answer-refused _ _ _ (λ none. some (e ∙ none))))
+
+  pub sizes-goes : levelSizesRefusal kind w h m ≡ 0
+      → Level (start (facesOf kind) w h m) (sideAt m w) (sideAt m h) (count (facesOf kind) w h) ≡ levelSizesAnswer kind w h m
+  unfolding levelSizesAnswer
+  sizes-goes none = sym (answer-given _ _ _ none)
+
+module _ (kind w h : ℕ) (l : List ℕ) where
+  pub chain-stops : {r : ℕ} → r ≡ chainRefusal kind w h (length l) → (r ≡ 0 → ⊥)
+      → (Refused r ≡ chainAnswer kind w h l) × (l ≡ chainLeaves kind w h l)
+  unfolding chainAnswer chainLeaves
+  chain-stops e some = stops _ _ _ e some
+
+  pub chain-goes : {n : ℕ} {t : List ℕ} → chainRefusal kind w h (length l) ≡ 0 → n ≡ count (facesOf kind) w h → t ≡ filledOf kind w h l
+      → (Texels n ≡ chainAnswer kind w h l) × (t ≡ chainLeaves kind w h l)
+  unfolding chainAnswer chainLeaves
+  chain-goes none en et = goes _ _ _ none en et
+
+  module _ (m f : ℕ) where
+    pub view-stops : {r : ℕ} → r ≡ viewRefusal kind w h (length l) m f → (r ≡ 0 → ⊥) → [] ≡ viewAnswer kind w h l m f
+    unfolding viewAnswer
+    view-stops e some = sym (answer-refused _ _ _ (λ none. some (e ∙ none)))
+
+    pub view-goes : {t : List ℕ} → viewRefusal kind w h (length l) m f ≡ 0 → t ≡ faceView (facesOf kind) w h m f l → t ≡ viewAnswer kind w h l m f
+    unfolding viewAnswer
+    view-goes none et = et ∙ sym (answer-given _ _ _ none)
+
+  module _ (k : ℕ) (corner sides : Pair) (target : List ℕ) where
+    pub cut-stops : {r : ℕ} → r ≡ cutCallRefusal kind w h (length l) k corner sides (length target) → (r ≡ 0 → ⊥)
+        → (Refused r ≡ cutAnswer kind w h l k corner sides target) × (target ≡ cutLeaves kind w h l k corner sides target)
+    unfolding cutAnswer cutLeaves
+    cut-stops e some = stops _ _ _ e some
+
+    pub cut-goes : {n : ℕ} {t : List ℕ} → cutCallRefusal kind w h (length l) k corner sides (length target) ≡ 0 → n ≡ sides .y * sides .x
+        → t ≡ cut w h (corner .x) (corner .y) (sides .x) (sides .y) l ++ drop (sides .y * sides .x) target
+        → (Texels n ≡ cutAnswer kind w h l k corner sides target) × (t ≡ cutLeaves kind w h l k corner sides target)
+    unfolding cutAnswer cutLeaves
+    cut-goes none en et = goes _ _ _ none en et
+
+module _ (w h : ℕ) (bytes faces : List ℕ) where
+  pub cross-stops : {r : ℕ} → r ≡ crossRefusal w h (length bytes) (length faces) → (r ≡ 0 → ⊥)
+      → (Refused r ≡ crossAnswer w h bytes faces) × (faces ≡ crossLeaves w h bytes faces)
+  unfolding crossAnswer crossLeaves
+  cross-stops e some = stops _ _ _ e some
+
+  pub cross-goes : {n : ℕ} {t : List ℕ} → crossRefusal w h (length bytes) (length faces) ≡ 0 → n ≡ 6 * crossHeight h * crossWidth w
+      → t ≡ crossOf w h bytes ++ drop (6 * crossHeight h * crossWidth w) faces
+      → (Texels n ≡ crossAnswer w h bytes faces) × (t ≡ crossLeaves w h bytes faces)
+  unfolding crossAnswer crossLeaves
+  cross-goes none en et = goes _ _ _ none en et
