@@ -1,5 +1,54 @@
-.PHONY: test
+# make demo, make test: all the set-up that is needed, nothing else. The rest is for whoever works on the unit.
+.PHONY: demo test samples sheet sheets differential bench answers proof-times
 
-# Proves every crate, tries every must-fail edit, runs every program.
+CC ?= cc
+CFLAGS = -std=c11 -O2 -Wall -Wextra -Werror -Iinclude
+ARCHIVE = target/staticlib/libstation.a
+COMPARE = cargo run --quiet --release --offline --manifest-path bindings/compare/Cargo.toml --features unit
+export SWATHECOLD_LIB = $(CURDIR)/target/staticlib
+export CARGO_TARGET_DIR = $(CURDIR)/target/cargo
+
+# Lists the levels of every sample picture.
+demo:
+	@tools/demo
+
+# Proves every crate, tries every wrong program, runs the programs, the C program and the Rust tests. Ends with rt ci's last line.
 test:
-	rt ci
+	@tools/test
+
+# The archive that C and Rust link. rt proves what has changed since it was last proved.
+archive:
+	@rt staticlib station > /dev/null
+
+target/chain: tools/chain.c include/swathecold.h | archive
+	@$(CC) $(CFLAGS) tools/chain.c $(ARCHIVE) -o $@
+
+samples:
+	python3 tools/pictures.py samples
+
+# make sheet PICTURE=samples/hammered_grey.txr: the picture and all its levels on one sheet, target/sheet.png.
+PICTURE ?= samples/hammered_grey.txr
+sheet: target/chain
+	python3 tools/sheet.py target/chain $(PICTURE) target/sheet.png
+
+# The two sheets that the README shows.
+sheets: target/chain
+	python3 tools/sheet.py target/chain samples/hammered_grey.txr docs/levels.png
+	python3 tools/sheet.py target/chain samples/hammered_grey.txr docs/accident.png --accident
+
+# The long comparison with document 01 read plainly and, where they are given (SWRASTER_SRC), the station's own sources.
+differential: archive
+	$(COMPARE) --bin differential -- large
+	tools/memory
+
+# Unit and source side by side, as ratios.
+bench: archive
+	$(COMPARE) --bin bench
+
+# Makes the stored answers again that crates/replay runs.
+answers:
+	$(COMPARE) --bin answers -- crates/replay/data
+
+# Check time, code lines, definition lines and proof lines of each crate.
+proof-times:
+	@tools/proof-times

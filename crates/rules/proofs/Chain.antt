@@ -1,16 +1,16 @@
 -- Level a, opened as a picture of its own, has the whole picture's levels from a on: by levels, by chains, by buffers.
 -- For any number of faces and any way to make one texel of four. Assumes nothing.
-use mathlib.Core.Path.{_≡_, refl, sym, ap, ap₂, _∙_}
-use mathlib.Core.List.{List, [], _∷_, _++_, append-assoc, append-nil}
+use mathlib.Core.Path.{_≡_, refl, sym, _∙_}
+use mathlib.Core.List.{List, _++_, append-assoc, append-nil}
 use Prim.Native.Nat.{ℕ, zero, suc, _+_, _-_, _*_, _≤_, _<_}
-use native.Mathlib.Nat.{add-zero, zero-add, add-assoc, suc-add, le-of-suc-le-suc, not-suc-le-zero, sub-add-cancel, add-suc}
+use native.Mathlib.Nat.{add-zero, zero-add, add-assoc, suc-add}
 use native.Mathlib.Omega.{arith}
-use lib.ListN.{length, take, drop, length-append, take-append-drop, length-take, length-drop}
-use lib.Seq.{take-at, drop-at, drop-drop, take-append-le, length-take-le, drop-append-le, drop-append-seam}
-use Rattle.rules.specs.Sizes.{sideAt, half, top, sizeAt, start, count}
+use lib.ListN.{length, take, drop, length-append, take-append-drop}
+use lib.Seq.{take-at, drop-at, drop-drop}
+use Rattle.rules.specs.Sizes.{sideAt, half, top, sizeAt, start}
 use Rattle.rules.specs.Levels.{next, level, chain, filled}
 use Rattle.rules.proofs.Grid.{length-grid}
-use Rattle.rules.proofs.Sides.{side-half, side-zero, side-pos, top-side, start-half, start-add, size-add, size-zero, size-half, count-side}
+use Rattle.rules.proofs.Sides.{side-half, side-zero, top-side, start-half, size-zero, size-half}
 
 module _ (reduce : ℕ → ℕ → ℕ → ℕ → ℕ) (faces : ℕ) where
   pub length-next : (w h : ℕ) (l : List ℕ) → length (next reduce faces w h l) ≡ faces * half h * half w

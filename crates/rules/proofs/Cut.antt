@@ -1,14 +1,14 @@
 -- The first k levels of an aligned cut are the matching cuts of the whole picture's levels. Assumes nothing.
-use mathlib.Core.Path.{_≡_, refl, sym, ap, _∙_}
+use mathlib.Core.Path.{_≡_, sym, ap, _∙_}
 use mathlib.Core.List.{List}
 use Prim.Native.Nat.{ℕ, zero, suc, _+_, _-_, _*_, _/_, _%_, _^_, _≤_, _<_, min}
-use native.Mathlib.Nat.{pow-zero, div-one, mod-eq-of-lt}
+use native.Mathlib.Nat.{pow-zero, div-one, mod-eq-of-lt, sub-zero, suc-sub-suc}
 use native.Mathlib.Decide.{decLe}
 use native.Mathlib.Numerals.{one-add, add-one}
 use native.Mathlib.Omega.{arith}
-use lib.Pow.{pow-pos, mod-pow-add, shr-shr}
+use lib.Pow.{mod-pow-add, shr-shr}
 use Rattle.rules.specs.Sizes.{sideAt, half, top}
-use Rattle.rules.specs.Levels.{grid, texel, quad, next, level}
+use Rattle.rules.specs.Levels.{texel, quad, next, level}
 use Rattle.rules.specs.Cuts.{cut, CutAt}
 use Rattle.rules.proofs.Grid.{texel-grid, grid-ext}
 use Rattle.rules.proofs.Sides.{side-half, side-zero, le-top}
@@ -45,13 +45,26 @@ half-cut {k} {w} {h} {cx} {cy} {cw} {ch} c =
       inside-h = omega arith;
     }
 
+-- the matching cut of level j is aligned by what is left of k
+pub matching-at : (j k w h cx cy cw ch : ℕ) → j ≤ k → CutAt k w h cx cy cw ch
+    → CutAt (k - j) (sideAt j w) (sideAt j h) (cx / 2 ^ j) (cy / 2 ^ j) (cw / 2 ^ j) (ch / 2 ^ j)
+matching-at zero k w h cx cy cw ch le c =
+    rw (sub-zero k, pow-zero 2, div-one cx, div-one cy, div-one cw, div-one ch, side-zero w (omega arith), side-zero h (omega arith)) c
+matching-at (suc j) zero w h cx cy cw ch le c = absurd (omega arith)
+matching-at (suc j) (suc k) w h cx cy cw ch le c =
+    rw (suc-sub-suc k j, ← side-half j w, ← side-half j h, ← shr-suc cx j, ← shr-suc cy j, ← shr-suc cw j, ← shr-suc ch j)
+    (matching-at j k (half w) (half h) (cx / 2) (cy / 2) (cw / 2) (ch / 2) (omega arith) (half-cut c))
+
 -- a multiple of 2^k that is not 0 is at least 2^k
 le-multiple : (k x : ℕ) → 0 < x → x % 2 ^ k ≡ 0 → 2 ^ k ≤ x
 le-multiple k x p e = elim (decLe (2 ^ k) x) [ yes l ↦ l | no f ↦ let z = mod-eq-of-lt {n = x} {m = 2 ^ k} (omega arith) in absurd (omega arith) ]
 
--- an aligned cut has k levels above its level 0
+-- an aligned cut has k levels above its level 0, and so has the picture that it is cut from
 pub cut-top : {k w h cx cy cw ch : ℕ} → CutAt k w h cx cy cw ch → k ≤ top cw ch
 cut-top {k} {cw} {ch} c = le-top k cw ch (c .some-w) (le-multiple k cw (c .some-w) (c .side-w))
+
+pub cut-inside : {k w h cx cy cw ch : ℕ} → CutAt k w h cx cy cw ch → k ≤ top w h
+cut-inside {k} {w} {h} {cw} c = let m = le-multiple k cw (c .some-w) (c .side-w) in le-top k w h (omega arith) (omega arith)
 
 module _ (reduce : ℕ → ℕ → ℕ → ℕ → ℕ) where
   -- where neither side is held, the four texels are a square

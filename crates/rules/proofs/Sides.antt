@@ -1,8 +1,7 @@
 -- The size laws. Assumes nothing.
-use mathlib.Core.Path.{_≡_, refl, sym, ap, ap₂, _∙_, subst}
-use mathlib.Core.Bool.{Bool, true, false}
+use mathlib.Core.Path.{_≡_, refl, sym, ap, _∙_}
 use Prim.Native.Nat.{ℕ, zero, suc, _+_, _-_, _*_, _/_, _^_, _≤_, _<_, max}
-use native.Mathlib.Nat.{add-zero, add-suc, suc-add, pow-zero, div-one, zero-div, div-le-self, max-eq-left, max-eq-right, div-div-eq-div-mul, mul-comm, le-refl}
+use native.Mathlib.Nat.{add-zero, add-suc, suc-add, pow-zero, div-one, zero-div, div-le-self, max-eq-left, max-eq-right, le-refl}
 use native.Mathlib.Omega.{arith}
 use native.Mathlib.Nat.{not-le-of-lt, le-div-iff-mul-le, div-lt-iff-lt-mul, sub-add-cancel}
 use native.Mathlib.Numerals.{one-add}
@@ -90,12 +89,16 @@ log2-small zero h = refl
 log2-small (suc zero) h = refl
 log2-small (suc (suc n)) h = absurd (omega arith)
 
+-- ---- the top level
+
+-- the top level is floor(log2(larger side))
+pub top-bounds : (w h : ℕ) → 0 < w → (2 ^ top w h ≤ max w h) × (max w h < 2 ^ suc (top w h))
+unfolding top
+top-bounds w h p = log2-bounds (max w h) (omega arith)
+
 -- a power of two that fits a side is a level
 pub le-top : (k w h : ℕ) → 0 < w → 2 ^ k ≤ w → k ≤ top w h
-unfolding top
-le-top k w h p le =
-    let b = log2-bounds (max w h) (omega arith) in
-    exp-le k (log2 (max w h)) (omega arith)
+le-top k w h p le = let b = top-bounds w h p in exp-le k (top w h) (omega arith)
 
 -- ---- the top level of level a, opened as a picture of its own
 
@@ -150,25 +153,3 @@ start-half F w h n pw ph =
 pub count-side : (F w h a : ℕ) → 0 < w → a ≤ top w h → count F w h ≡ start F w h a + count F (sideAt a w) (sideAt a h)
 unfolding count
 count-side F w h a p le = rw (top-side w h a p le, ← start-add F w h a (suc (top w h - a))) (ap (λ (k : ℕ). start F w h k) (omega arith))
-
--- ---- the reference list's sizes
-
-levels-4096-1 : suc (top 4096 1) ≡ 13
-unfolding top log2 halvings
-levels-4096-1 = refl
-
-count-4096-1 : count 1 4096 1 ≡ 8191
-unfolding count start sizeAt sideAt top log2 halvings
-count-4096-1 = refl
-
-count-5-3 : count 1 5 3 ≡ 18
-unfolding count start sizeAt sideAt top log2 halvings
-count-5-3 = refl
-
-starts-5-3 : (start 1 5 3 0 ≡ 0) × (start 1 5 3 1 ≡ 15) × (start 1 5 3 2 ≡ 17)
-unfolding count start sizeAt sideAt top log2 halvings
-starts-5-3 = (refl, refl, refl)
-
-count-cube-2 : (start 6 2 2 1 ≡ 24) × (count 6 2 2 ≡ 30)
-unfolding count start sizeAt sideAt top log2 halvings
-count-cube-2 = (refl, refl)

@@ -6,7 +6,7 @@ use mathlib.Core.Bool.{Bool, true, false, not, cond}
 use Prim.Native.Nat.{ℕ, _+_, _*_, _/_, _%_, _^_, _≤_, _<_, zero-le}
 use native.Mathlib.Nat.{le-refl, le-trans, le-of-eq, zero-lt-suc, one-mul, mul-one, mul-right-comm, mul-le-mul-right, le-of-mul-le-mul-right, div-add-mod'}
 use native.Mathlib.Omega.{arith}
-use lib.IntN.{ℤ, pos}
+use lib.IntN.{pos}
 use lib.Dec.{T, ltb, nltb→le, le→leb}
 use lib.Ieee.{Float, nan, inf, fin, binary32, up, down, le, neg, mul, round, ofInt, ofBits, inFloat, fits}
 use lib.Ieee.Fits.{down-pos, ofInt-fits}

@@ -1,10 +1,11 @@
--- A value less its floor lies in 0 to 1, each a float: the weights of the bilinear lookup. Assumes nothing.
-use mathlib.Core.Path.{_≡_, refl, sym, ap, _∙_, subst, subst₂}
-use Prim.Native.Nat.{ℕ, zero, suc, _+_, _-_, _*_, _/_, _%_, _^_, _≤_, _<_, zero-le}
-use native.Mathlib.Nat.{le-refl, le-trans, le-of-eq, zero-lt-suc, zero-mul, one-mul, mul-one, mul-pos, mul-comm, mul-assoc, mul-right-comm, mul-le-mul-right, add-mul, div-mul-le-self, div-add-mod', mod-lt}
+-- A value less its floor lies in 0 to 1, each an f32: the weights of the bilinear lookup. The difference lies in 0 to 1 before it is rounded, and
+-- rounding keeps the order. Assumes nothing.
+use mathlib.Core.Path.{_≡_, refl, sym, _∙_, subst}
+use mathlib.Core.Bool.{Bool, false}
+use Prim.Native.Nat.{ℕ, _+_, _*_, _/_, _≤_, _<_}
+use native.Mathlib.Nat.{le-of-suc-le-suc, zero-lt-suc, mul-one, mul-pos, mul-right-comm, mul-le-mul-right, add-mul, div-lt-iff-lt-mul, div-add-mod', mod-lt}
 use native.Mathlib.Omega.{arith}
-use mathlib.Core.Bool.{Bool, true, false}
-use lib.IntN.{ℤ, pos, negsuc, negℤ}
+use lib.IntN.{ℤ, subℕ}
 use lib.Dec.{T}
 use lib.Ieee.{Float, nan, inf, fin, binary32, up, down, sub, round, ofInt, ofBits}
 use lib.Ieee.Fits.{down-pos}
@@ -12,11 +13,11 @@ use lib.Ieee.Exact.{HasValue}
 use lib.Ieee.Scale.{finite}
 use lib.Ieee.Positive.{num, den, den-pos}
 use Rattle.rules.specs.Floats.{Between, zero32, one32}
-use Rattle.texel.proofs.Range.{plus, less, sgn, Le, le→, sub-is, sum-in, Between-finite}
-use Rattle.texel.proofs.Unit.{ends}
 use Rattle.rules.specs.Whole.{floorOf}
 use Rattle.texel.specs.Ends.{low23, high23}
-use Rattle.texel.proofs.Floors.{small, cut, minus-of, sign-of, float-neg, float-pos, plus-of, less-of}
+use Rattle.texel.proofs.Range.{plus, less, sgn, sub-is, sum-in, Between-finite}
+use Rattle.texel.proofs.Unit.{ends}
+use Rattle.texel.proofs.Floors.{raised, floor-is, lowered, times, plus-of, less-of}
 
 -- ±n ≤ x ≤ ±n + 1, in whole numbers: x is (p - l) / D
 abbrev Near : ℕ → ℕ → ℕ → Bool → ℕ → Type 0
@@ -54,34 +55,19 @@ near-in x (fin u k d) s n f v h =
     o : round binary32 false 1 1 ≡ one32
     o = unfold round ofBits in refl
 
-near-pos : (A D : ℕ) → 0 < D → Near A 0 D false (A / D)
-near-pos A D h = let d = div-add-mod' A D in let m = mod-lt A h in (omega arith, omega arith)
-
-near-neg : (A D : ℕ) → 0 < D → (n : ℕ) → n ≡ (A + (D - 1)) / D → Near 0 A D (sign-of n) n
-near-neg A D h zero e =
-    let d = div-add-mod' (A + (D - 1)) D in
-    let m = mod-lt (A + (D - 1)) h in
-    let k : (A + (D - 1)) / D * D ≡ 0 * D = ap (λ (z : ℕ). z * D) (sym e) in
-    (omega arith, omega arith)
-near-neg A D h (suc n) e =
-    let d = div-add-mod' (A + (D - 1)) D in
-    let m = mod-lt (A + (D - 1)) h in
-    let k : (A + (D - 1)) / D * D ≡ suc n * D = ap (λ (z : ℕ). z * D) (sym e) in
-    (omega arith, omega arith)
-
-ceil-small : (A D : ℕ) → 0 < D → A ≤ 8388608 * D → (A + (D - 1)) / D < 8388609
-ceil-small A D h l = native.Mathlib.Nat.div-lt-iff-lt-mul h .1 (omega arith)
-
-cases : (x : Float) → T (finite x) → Between low23 x high23 → Between zero32 (sub binary32 x (ofInt binary32 (floorOf x))) one32
-unfolding floorOf
-cases nan f b = absurd f
-cases (inf s) f b = absurd f
-cases (fin false m e) f b =
-    near-in (fin false m e) (ofInt binary32 (pos (m * up e / down e))) false (m * up e / down e) tt (float-pos (m * up e / down e) (small (fin false m e) f b)) (near-pos (m * up e) (down e) (down-pos e))
-cases (fin true m e) f b =
-    let n = (m * up e + (down e - 1)) / down e in
-    let h = le→ low23 (fin true m e) tt tt (b .low) in
-    near-in (fin true m e) (ofInt binary32 (minus-of n)) (sign-of n) n tt (float-neg n (ceil-small (m * up e) (down e) (down-pos e) (omega arith))) (near-neg (m * up e) (down e) (down-pos e) n refl)
-
 pub fraction-in : (x : Float) → Between low23 x high23 → Between zero32 (sub binary32 x (ofInt binary32 (floorOf x))) one32
-fraction-in x b = cases x (Between-finite low23 x high23 tt tt b) b
+fraction-in x b =
+    let r = raised x b in
+    let q = r .n / den x in
+    let l = r .few in
+    let d = den-pos x in
+    let w = lowered q (small (r .n) (den x) d l) in
+    let f = Between-finite low23 x high23 tt tt b in
+    let z = times x (ofInt binary32 (subℕ q 8388608)) f (w .sign) (w .size) q (r .n) (w .value) (w .val) (r .val) in
+    let v = r .val in
+    let e = div-add-mod' (r .n) (den x) in
+    let m = mod-lt (r .n) d in
+    subst (λ (t : ℤ). Between zero32 (sub binary32 x (ofInt binary32 t)) one32) (floor-is x b r) (near-in x (ofInt binary32 (subℕ q 8388608)) (w .sign) (w .size) f (w .value) (omega arith, omega arith))
+  where
+    small : (n d : ℕ) → 0 < d → n ≤ 16777216 * d → n / d ≤ 16777217
+    small n d D h = le-of-suc-le-suc (div-lt-iff-lt-mul D .1 (omega arith))

@@ -1,23 +1,28 @@
 -- The value of a bit pattern is `units` of the smallest value, so patterns are in the order of the values; and the pattern of a value
 -- above zero lies below the infinity's. The fields of a pattern are taken apart once, and both follow. Assumes nothing.
 use mathlib.Core.Path.{_≡_, refl, sym, ap, _∙_, subst}
-use mathlib.Core.Logic.{_⊎_, inl, inr}
+use mathlib.Core.Logic.{inl, inr}
 use Prim.Native.Nat.{ℕ, zero, suc, _+_, _-_, _*_, _/_, _%_, _^_, _≤_, _<_}
-use native.Mathlib.Nat.{lt-of-le-of-lt, eq-zero-or-pos, zero-mul, mul-one, mul-pos, mul-le-mul-right}
+use native.Mathlib.Nat.{le-of-suc-le-suc, lt-of-le-of-lt, lt-of-not-le, not-le-of-lt, eq-zero-or-pos, zero-mul, mul-one, mul-pos, mul-le-mul-right, le-of-mul-le-mul-right}
 use native.Mathlib.Omega.{arith}
-use mathlib.Core.Bool.{Bool, true, false, not, cond}
+use mathlib.Core.Bool.{Bool, true, false, not, _&&_, cond}
+use lib.IntN.{pos}
 use lib.Dec.{T, leb, ltb, eqb, ltb→lt, nltb→le, nleb→lt, eqb→eq, lit<}
 use lib.Arith.{le→nltb, lt→nleb}
 use lib.Pow.{pow-pos}
-use lib.Ieee.{Float, nan, inf, fin, binary32, le, odd, ofFields, ofBits, toBits, fits, isNan, nanBits}
+use lib.Ieee.{Float, nan, inf, fin, binary32, binary64, up, down, le, odd, ofFields, ofBits, toBits, fits, isNan, nanBits}
+use lib.Ieee.Fits.{down-pos, and-i, fits-widens}
 use lib.Ieee.Exact.{HasValue, odd-sign}
-use lib.Ieee.Order.{le-of-values}
+use lib.Ieee.Order.{transfer, le-of-values}
 use lib.Ieee.Scale.{finite}
-use lib.Ieee.Positive.{num, den, positive, value→cross}
+use lib.Ieee.Positive.{num, den, positive, positive-finite, value→cross}
 use lib.Ieee.Bits.{is-false, ofBits-toBits, toBits-lt, nanBits-above}
+use Rattle.rules.specs.Floats.{zero32}
 use Rattle.rules.specs.NearestValue.{units}
-use Rattle.texel.proofs.Range.{positive-num}
-use Rattle.texel.proofs.Unique.{units-low, units-high, units-le}
+use Rattle.texel.proofs.Range.{sgn, le→, le-self, positive-num}
+use Rattle.texel.proofs.FromZero.{zero-or-above}
+use Rattle.texel.proofs.Same.{unique}
+use Rattle.texel.proofs.Units.{units-low, units-high, units-le, units-lt}
 
 -- ---- the value of a pattern
 -- by the field and the digits
@@ -64,6 +69,31 @@ pub pattern-le : (a b : ℕ) → a ≤ b → b < 2139095040 → T (le (ofBits bi
 pattern-le a b h l =
     le-of-values (ofBits binary32 a) (ofBits binary32 b) (units a) (2 ^ 149) (units b) (2 ^ 149) (pow-pos 149) (pow-pos 149) (pattern-value a (lt-of-le-of-lt h l)) (pattern-value b l)
     (mul-le-mul-right (2 ^ 149) (units-le a b h))
+
+pub pattern-finite : (p : ℕ) → p < 2139095040 → T (finite (ofBits binary32 p))
+pattern-finite p h = go (ofBits binary32 p) (pattern-value p h)
+  where
+    go : (x : Float) → HasValue x false (units p) (2 ^ 149) → T (finite x)
+    go nan v = absurd v
+    go (inf s) v = absurd v
+    go (fin s m e) v = tt
+
+-- the order of two values is that of their patterns
+pub le-pattern : (a b : ℕ) → a < 2139095040 → b < 2139095040 → T (le (ofBits binary32 a) (ofBits binary32 b)) → a ≤ b
+le-pattern a b h l t = le-of-suc-le-suc (lt-of-not-le (λ (g : b < a). not-le-of-lt (units-lt b a g) (ordered (ofBits binary32 a) (ofBits binary32 b) (pattern-value a h) (pattern-value b l) t)))
+  where
+    ordered : (x y : Float) → HasValue x false (units a) (2 ^ 149) → HasValue y false (units b) (2 ^ 149) → T (le x y) → units a ≤ units b
+    ordered nan y v w t = absurd v
+    ordered (inf s) y v w t = absurd v
+    ordered (fin s m e) nan v w t = absurd w
+    ordered (fin s m e) (inf u) v w t = absurd w
+    ordered (fin true m e) (fin u n d) v w t = absurd (subst T (v .0) tt)
+    ordered (fin false m e) (fin true n d) v w t = absurd (subst T (w .0) tt)
+    ordered (fin false m e) (fin false n d) v w t =
+        let k = le→ (fin false m e) (fin false n d) tt tt t in
+        le-of-mul-le-mul-right
+        (transfer (units a) (units b) (2 ^ 149) (2 ^ 149) (m * up e) (n * up d) (down e) (down d) (down-pos e) (down-pos d) (sym (v .1)) (sym (w .1)) (omega arith))
+        (pow-pos 149)
 
 -- ---- the pattern of a value above zero
 odd-negative : (d q k l : ℕ) → T (positive (odd d true q k l)) → ⊥
@@ -128,3 +158,41 @@ unfolding isNan
 no-nan nan t = t
 no-nan (inf s) t = tt
 no-nan (fin s m e) t = tt
+
+-- what a cast from f32 to f64 asks
+pub widens : (x : Float) → T (fits binary32 x) → T (finite x) → T (fits binary64 x && not (isNan x))
+widens x f g = and-i (fits binary64 x) (not (isNan x)) (fits-widens x f) (no-nan x g)
+
+-- ---- the pattern of an x from zero up, without the sign that -0 has, is that of an equal value
+pub record Unsigned (x : Float) : Type 0 where
+  pub small : toBits binary32 x % 2147483648 < 2139095040
+  pub under : T (le (ofBits binary32 (toBits binary32 x % 2147483648)) x)
+  pub over : T (le x (ofBits binary32 (toBits binary32 x % 2147483648)))
+
+zero-unsigned : (s : Bool) → Unsigned (fin s 0 (pos 0))
+unfolding toBits ofBits le
+zero-unsigned true = record { small = lit< tt; under = tt; over = tt }
+zero-unsigned false = record { small = lit< tt; under = tt; over = tt }
+
+zero-is : (x : Float) → T (fits binary32 x) → T (finite x) → num x ≡ 0 → x ≡ fin (sgn x) 0 (pos 0)
+unfolding fits
+zero-is x f g z = unique binary32 x (fin (sgn x) 0 (pos 0)) (sgn x) 0 1 (lit< tt) f (held (sgn x)) (value x g z) (refl, refl)
+  where
+    held : (s : Bool) → T (fits binary32 (fin s 0 (pos 0)))
+    held s = tt
+
+    value : (x : Float) → T (finite x) → num x ≡ 0 → HasValue x (sgn x) 0 1
+    value nan g z = absurd g
+    value (inf s) g z = absurd g
+    value (fin s m e) g z = (refl, mul-one (m * up e) ∙ z ∙ sym (zero-mul (down e)))
+
+positive-unsigned : (x : Float) → T (fits binary32 x) → T (positive x) → Unsigned x
+positive-unsigned x f h =
+    let b = positive-below x f h in
+    let g = positive-finite x h in
+    let e : toBits binary32 x % 2147483648 ≡ toBits binary32 x = omega arith in
+    let i : ofBits binary32 (toBits binary32 x % 2147483648) ≡ x = ap (ofBits binary32) e ∙ ofBits-toBits binary32 x f in
+    record { small = omega arith; under = subst (λ (y : Float). T (le y x)) (sym i) (le-self x g); over = subst (λ (y : Float). T (le x y)) (sym i) (le-self x g) }
+
+pub unsigned : (x : Float) → T (fits binary32 x) → T (finite x) → T (le zero32 x) → Unsigned x
+unsigned x f g h = elim (zero-or-above x g h) [ inl z ↦ subst Unsigned (sym (zero-is x f g z)) (zero-unsigned (sgn x)) | inr p ↦ positive-unsigned x f p ]

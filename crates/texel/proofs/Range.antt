@@ -2,15 +2,14 @@
 -- add lo lo' ≤ add x y ≤ add hi hi', and the two ends are constants that antt computes. Assumes nothing.
 use mathlib.Core.Path.{_≡_, refl, sym, ap, ap₂, _∙_, subst, subst₂}
 use mathlib.Core.Logic.{_⊎_, inl, inr}
-use Prim.Native.Nat.{ℕ, zero, suc, _+_, _-_, _*_, _/_, _^_, _≤_, _<_, min, zero-le}
-use native.Mathlib.Nat.{le-refl, le-trans, le-of-eq, le-of-lt, lt-of-lt-of-le, lt-of-le-of-lt, eq-or-lt-of-le, zero-lt-suc, zero-mul, mul-zero, mul-one, mul-comm, mul-assoc, mul-left-comm, mul-right-comm, add-mul, mul-add, mul-le-mul-right, mul-le-mul, le-of-mul-le-mul-right, lt-of-mul-lt-mul-right, mul-lt-mul-of-pos-right, mul-pos, mul-mul-mul-comm, eq-zero-or-pos}
+use Prim.Native.Nat.{ℕ, zero, suc, _+_, _-_, _*_, _/_, _^_, _≤_, _<_, zero-le}
+use native.Mathlib.Nat.{le-refl, le-trans, le-of-eq, le-of-lt, eq-or-lt-of-le, zero-lt-suc, zero-mul, mul-zero, mul-comm, mul-assoc, mul-left-comm, mul-right-comm, add-mul, mul-le-mul-right, mul-le-mul, le-of-mul-le-mul-right, lt-of-mul-lt-mul-right, mul-lt-mul-of-pos-right, mul-pos, mul-mul-mul-comm, eq-zero-or-pos}
 use native.Mathlib.Omega.{arith}
-use mathlib.Core.Bool.{Bool, true, false, not, _&&_, _||_, Bool·beq, cond}
-use lib.IntN.{ℤ, pos, negsuc}
-use lib.Dec.{T, leb, ltb, eqb, ltb→lt, lt→ltb, nltb→le, eqb→eq, lit<}
+use mathlib.Core.Bool.{Bool, true, false, not, _&&_, _||_, cond}
+use lib.Dec.{T, ltb, eqb, ltb→lt, lt→ltb, nltb→le, eqb→eq}
 use lib.Pow.{pow-pos}
 use lib.Ieee.{Float, nan, inf, fin, Format, prec, emax, low, unlike, up, down, odd, units, round, sum, neg, add, sub, mul, div, le, lt, toUnsigned}
-use lib.Ieee.Fits.{up-pos, down-pos, and-i, and-l, and-r, eq→eqb, round-is, core}
+use lib.Ieee.Fits.{up-pos, down-pos, and-i, and-l, and-r, eq→eqb, round-is}
 use lib.Ieee.Exact.{HasValue, round-exact}
 use lib.Ieee.Order.{round-mono}
 use lib.Ieee.Scale.{finite, round-same}
@@ -291,7 +290,7 @@ sum-is f true a false b c = go (ltb a b) (ltb→lt a b) (nltb→le a b) (ltb b a
     go false h g true i = let l = g tt in record { sign = true; size = a - b; is = refl; val = omega arith }
     go false h g false i = let l = g tt in let r = i tt in record { sign = false; size = a - b; is = refl; val = omega arith }
 
-add-is : (f : Format) (x y : Float) → T (finite x) → T (finite y)
+pub add-is : (f : Format) (x y : Float) → T (finite x) → T (finite y)
     → Sum f (add f x y) (plus (sgn x) (num x * den y) + plus (sgn y) (num y * den x)) (less (sgn x) (num x * den y) + less (sgn y) (num y * den x)) (den x * den y)
 unfolding add
 add-is f nan y p q = absurd p
@@ -348,6 +347,9 @@ between-finite (fin s m e) (fin u i j) (fin t n d) p q h k = tt
 
 pub le-trans-finite : (x y z : Float) → T (finite x) → T (finite y) → T (finite z) → T (le x y) → T (le y z) → T (le x z)
 le-trans-finite x y z p q r h k = →le x z p r (Le-trans (plus (sgn x) (num x)) (less (sgn x) (num x)) (den x) (plus (sgn y) (num y)) (less (sgn y) (num y)) (den y) (plus (sgn z) (num z)) (less (sgn z) (num z)) (den z) (den-pos y) (le→ x y p q h) (le→ y z q r k))
+
+pub le-self : (x : Float) → T (finite x) → T (le x x)
+le-self x p = →le x x p p (le-refl (plus (sgn x) (num x) * den x + less (sgn x) (num x) * den x))
 
 -- ---- values that are not negative: -0 is one of them
 abbrev Zero : Bool → ℕ → Type 0
@@ -592,7 +594,7 @@ unlike-false : (s : Bool) → unlike s false ≡ s
 unlike-false true = refl
 unlike-false false = refl
 
-positive-sign : (y : Float) → T (positive y) → sgn y ≡ false
+pub positive-sign : (y : Float) → T (positive y) → sgn y ≡ false
 positive-sign nan p = absurd p
 positive-sign (inf s) p = absurd p
 positive-sign (fin true m e) p = absurd p
@@ -677,7 +679,7 @@ pub in-mul-abs : (f : Format) (z a x y b : Float) → T (finite z) → num z ≡
 in-mul-abs f z a x y b Z E A za Y zy B yb F G zz k =
     let X = Between-finite (neg a) x a (neg-finite a A) A k in
     let Yf = positive-finite y Y in
-    let top : T (le (mul f a y) (mul f a b)) = mul-mono f z a a y b Z E A A Yf B za zy (refl-le a A) yb in
+    let top : T (le (mul f a y) (mul f a b)) = mul-mono f z a a y b Z E A A Yf B za zy (le-self a A) yb in
     let bottom : T (le (mul f z z) (mul f a y)) = mul-mono f z z a z y Z E Z A Z Yf zz zz za zy in
     let M : T (finite (mul f a y)) = between-finite (mul f z z) (mul f a y) (mul f a b) G F bottom top in
     let xy : T (finite (mul f x y)) = between-finite (mul f (neg a) y) (mul f x y) (mul f a y) (rw (mul-neg f a y A Yf) (neg-finite (mul f a y) M)) M (mul-mono-by f (neg a) x y (neg-finite a A) X Y (k .low)) (mul-mono-by f x a y X A Y (k .high)) in
@@ -686,9 +688,3 @@ in-mul-abs f z a x y b Z E A za Y zy B yb F G zz k =
           (subst (λ (w : Float). T (le w (mul f x y))) (mul-neg f a y A Yf) (mul-mono-by f (neg a) x y (neg-finite a A) X Y (k .low)));
       high = le-trans-finite (mul f x y) (mul f a y) (mul f a b) xy M F (mul-mono-by f x a y X A Y (k .high)) top;
     }
-  where
-    refl-le : (a : Float) → T (finite a) → T (le a a)
-    refl-le a A = →le a a A A (le-refl' (plus (sgn a) (num a)) (less (sgn a) (num a)) (den a))
-      where
-        le-refl' : (p n c : ℕ) → p * c + n * c ≤ p * c + n * c
-        le-refl' p n c = le-refl (p * c + n * c)

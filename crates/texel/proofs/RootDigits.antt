@@ -12,7 +12,7 @@ use lib.Pow.{pow-add, pow-pos, shl-exact}
 use lib.Ieee.Fits.{and-i}
 use Rattle.rules.specs.NearestValue.{units, within, nearestRoot}
 use Rattle.texel.specs.Digits.{Parted, Rounded, Apart}
-use Rattle.texel.proofs.Unique.{units-at, units-low, units-high, units-lt}
+use Rattle.texel.proofs.Units.{units-at, units-low, units-high, units-lt}
 
 -- ---- squares, written out
 double : (q : ℕ) → 2 * q * (2 * q) ≡ 4 * (q * q)

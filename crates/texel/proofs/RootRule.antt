@@ -2,23 +2,24 @@
 -- that keeps the rule, the rule fixes its pattern, and it sees only the fraction that x is. The root of a value from 0 to 1 lies in 0 to 1.
 -- Assumes nothing.
 use mathlib.Core.Path.{_≡_, refl, sym, ap, _∙_, subst, subst₂}
-use mathlib.Core.Logic.{_⊎_, inl, inr}
+use mathlib.Core.Logic.{⊎-elim}
 use Prim.Native.Nat.{ℕ, _+_, _-_, _*_, _%_, _^_, _≤_, _<_, zero-le}
-use native.Mathlib.Nat.{le-trans, le-of-eq, le-of-suc-le-suc, lt-of-lt-of-le, lt-of-le-of-lt, lt-of-not-le, not-le-of-lt, zero-mul, mul-one, mul-assoc, mul-right-comm, mul-le-mul-left, mul-le-mul-right, le-of-mul-le-mul-right, mul-lt-mul-of-pos-right, lt-of-mul-lt-mul-right, pow-lt-pow-left, eq-zero-or-pos}
+use native.Mathlib.Nat.{le-trans, le-of-eq, le-of-suc-le-suc, lt-of-le-of-lt, lt-of-not-le, not-le-of-lt, zero-mul, mul-one, mul-assoc, mul-right-comm, mul-le-mul-left, mul-le-mul-right, le-of-mul-le-mul-right, mul-lt-mul-of-pos-right, lt-of-mul-lt-mul-right, pow-lt-pow-left}
 use native.Mathlib.Omega.{arith}
 use mathlib.Core.Bool.{Bool, true, false}
-use lib.IntN.{pos}
 use lib.Dec.{T, leb, ltb, eqb, leb→le, ltb→lt, le→leb, lt→ltb, lit<, lit≤}
 use lib.Pow.{pow-pos}
-use lib.Ieee.{Float, nan, inf, fin, binary32, up, down, le, lt, ofBits, toBits, fits}
+use lib.Ieee.{Float, binary32, le, lt, ofBits, toBits, fits}
 use lib.Ieee.Fits.{and-i, and-l, and-r}
 use lib.Ieee.Scale.{finite}
-use lib.Ieee.Positive.{num, den, den-pos, positive, first-pos}
+use lib.Ieee.Positive.{num, den, den-pos, positive, positive-finite}
 use Rattle.rules.specs.Floats.{Between, zero32, one32, largest}
 use Rattle.rules.specs.NearestValue.{units, within, nearestRoot, rootPattern}
 use Rattle.rules.specs.Root.{RootOf, sqrtOf}
-use Rattle.texel.proofs.Range.{le→, lt→, →lt, Between-finite, le-trans-finite}
-use Rattle.texel.proofs.Unique.{units-le, units-lt, unique, weak, mul-pow, nearest-found}
+use Rattle.texel.proofs.Range.{plus, less, sgn, lt→, →lt, positive-num, positive-sign, Between-finite, le-trans-finite}
+use Rattle.texel.proofs.FromZero.{no-sign, fraction-le, zero-or-above}
+use Rattle.texel.proofs.Units.{units-le, units-lt}
+use Rattle.texel.proofs.Unique.{reached-le, nearest-reached, unique, mul-pow, nearest-found}
 use Rattle.texel.proofs.Patterns.{pattern-le, cross}
 
 -- ---- the rule sees only the fraction: n / d is n' / d'
@@ -50,14 +51,13 @@ sum-lt : (u a b : ℕ) → u ≤ a → u < b → 2 * u < a + b
 sum-lt u a b h g = omega arith
 
 at-most : (n d p q : ℕ) → 0 < d → (2 ^ 149) ^ 2 * n ≤ units q ^ 2 * d → T (nearestRoot 2 n d p) → p ≤ q
-unfolding nearestRoot
 at-most n d p q D h t = le-of-suc-le-suc (lt-of-not-le (λ (l : q < p). over l))
   where
     over : q < p → ⊥
     over l =
         let g : 2 * units q < units (p - 1) + units p = sum-lt (units q) (units (p - 1)) (units p) (units-le q (p - 1) (omega arith)) (units-lt q p l) in
         let k : (2 * units q) ^ 2 * d < (units (p - 1) + units p) ^ 2 * d = mul-lt-mul-of-pos-right (pow-lt-pow-left g two-not-zero) D in
-        let w = weak (eqb (p % 2) 0) ((units (p - 1) + units p) ^ 2 * d) ((2 ^ 150) ^ 2 * n) ((units p + units (p + 1)) ^ 2 * d) t .0 in
+        let w = reached-le 2 n d p (nearest-reached 2 n d p t) in
         clash ((2 ^ 149) ^ 2 * n) (units q ^ 2 * d) ((2 ^ 150) ^ 2 * n) ((2 * units q) ^ 2 * d) ((units (p - 1) + units p) ^ 2 * d) h (mul-assoc 4 ((2 ^ 149) ^ 2) n) (four (units q)) k w
       where
         two-not-zero : _≡_ {A = ℕ} 2 0 → ⊥
@@ -69,20 +69,6 @@ at-most n d p q D h t = le-of-suc-le-suc (lt-of-not-le (λ (l : q < p). over l))
         clash : (a b a4 b4 c : ℕ) → a ≤ b → a4 ≡ 4 * a → b4 ≡ 4 * b → b4 < c → c ≤ a4 → ⊥
         clash a b a4 b4 c h e f k w = omega arith
 
--- ---- the fraction of an x from 0 to a bound
-fraction-le : (x hi : Float) → T (finite x) → T (positive hi) → Between zero32 x hi → num x * den hi ≤ num hi * den x
-unfolding ofBits
-fraction-le nan hi f p b = absurd f
-fraction-le (inf s) hi f p b = absurd f
-fraction-le (fin s m e) nan f p b = absurd p
-fraction-le (fin s m e) (inf t) f p b = absurd p
-fraction-le (fin s m e) (fin true n d) f p b = absurd p
-fraction-le (fin false m e) (fin false n d) f p b = let h = le→ (fin false m e) (fin false n d) tt tt (b .high) in omega arith
-fraction-le (fin true m e) (fin false n d) f p b =
-    let h = le→ (fin false 0 (pos 0)) (fin true m e) tt tt (b .low) in
-    let z : m * up e ≡ 0 = omega arith in
-    rw z (le-trans (le-of-eq (zero-mul (down d))) zero-le)
-
 -- n / d is at most l, and the root of l at most u units
 in-units : (n d l u : ℕ) → n * 1 ≤ l * d → (2 ^ 149) ^ 2 * l ≤ u ^ 2 → (2 ^ 149) ^ 2 * n ≤ u ^ 2 * d
 in-units n d l u h g =
@@ -92,7 +78,7 @@ in-units n d l u h g =
 -- ---- `sqrtOf x` is the correctly rounded root
 size : (x : Float) → Between zero32 x largest → num x * 1 ≤ num largest * den x
 unfolding ofBits
-size x b = fraction-le x largest (Between-finite zero32 x largest tt tt b) tt b
+size x b = fraction-le x largest (Between-finite zero32 x largest tt tt b) tt (b .low) (b .high)
 
 near : (x : Float) → Between zero32 x largest → T (nearestRoot 2 (num x) (den x) (rootPattern 2 (num x) (den x)))
 unfolding ofBits
@@ -126,7 +112,7 @@ unfolding ofBits units
 root-in x b =
     let k = root-of x (widen b) in
     let f = Between-finite zero32 x one32 tt tt b in
-    let l = at-most (num x) (den x) (k .pattern) 1065353216 (den-pos x) (in-units (num x) (den x) 1 (units 1065353216) (fraction-le x one32 f tt b) (lit≤ tt)) (k .nearest) in
+    let l = at-most (num x) (den x) (k .pattern) 1065353216 (den-pos x) (in-units (num x) (den x) 1 (units 1065353216) (fraction-le x one32 f tt (b .low) (b .high)) (lit≤ tt)) (k .nearest) in
     rw (k .is) (record { low = pattern-le 0 (k .pattern) zero-le (k .small); high = pattern-le (k .pattern) 1065353216 l (lit< tt) })
 
 -- ---- from the code to the rule: the root of a value above zero by its pattern, and that of a zero
@@ -145,28 +131,18 @@ root-of-zero x b h =
     (record { pattern = 0; is = refl; small = lit< tt; nearest = subst (λ (z : ℕ). T (nearestRoot 2 z (den x) 0)) (sym h) (zero-near (den x)) })
 
 -- what the test x > 0 says
-above-zero : (x : Float) → T (finite x) → T (lt zero32 x) → T (positive x)
-unfolding ofBits
-above-zero nan f t = absurd f
-above-zero (inf s) f t = absurd f
-above-zero (fin false m e) f t = let h = lt→ (fin false 0 (pos 0)) (fin false m e) tt tt t in lt→ltb 0 m (first-pos m (up e) (omega arith))
-above-zero (fin true m e) f t = let h = lt→ (fin false 0 (pos 0)) (fin true m e) tt tt t in absurd (none (m * up e) (down e) h)
-  where
-    none : (a d : ℕ) → 0 * d + a * 1 < 0 * 1 + 0 * d → ⊥
-    none a d h = omega arith
-
 pub test-above : (x : Float) → Between zero32 x largest → lt zero32 x ≡ true → T (positive x)
 unfolding ofBits
-test-above x b h = above-zero x (Between-finite zero32 x largest tt tt b) (subst T (sym h) tt)
-
-not-above : (x : Float) → T (finite x) → T (le zero32 x) → (T (lt zero32 x) → ⊥) → num x ≡ 0
-unfolding ofBits
-not-above nan f l h = absurd f
-not-above (inf s) f l h = absurd f
-not-above (fin true m e) f l h = let k = le→ (fin false 0 (pos 0)) (fin true m e) tt tt l in omega arith
-not-above (fin false m e) f l h =
-    elim (eq-zero-or-pos (m * up e)) [ inl z ↦ z | inr p ↦ absurd (h (→lt (fin false 0 (pos 0)) (fin false m e) tt tt (omega arith))) ]
+test-above x b h =
+    let f = Between-finite zero32 x largest tt tt b in
+    ⊎-elim (λ z. absurd (not-le-of-lt (lt→ zero32 x tt f (subst T (sym h) tt)) (at-zero x f (b .low) z))) (λ p. p) (zero-or-above x f (b .low))
+  where
+    at-zero : (x : Float) → T (finite x) → T (le zero32 x) → num x ≡ 0 → plus (sgn x) (num x) * 1 + 0 * den x ≤ 0 * den x + less (sgn x) (num x) * 1
+    at-zero x f l z = let s = no-sign x f l in let a = s .0 in let b = s .1 in omega arith
 
 pub test-zero : (x : Float) → Between zero32 x largest → lt zero32 x ≡ false → num x ≡ 0
 unfolding ofBits
-test-zero x b h = not-above x (Between-finite zero32 x largest tt tt b) (b .low) (λ t. subst T h t)
+test-zero x b h = ⊎-elim (λ z. z) (λ p. absurd (subst T h (above x p))) (zero-or-above x (Between-finite zero32 x largest tt tt b) (b .low))
+  where
+    above : (x : Float) → T (positive x) → T (lt zero32 x)
+    above x p = let k = positive-num x p in let s = positive-sign x p in →lt zero32 x tt (positive-finite x p) (rw s (omega arith))

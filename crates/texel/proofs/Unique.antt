@@ -1,180 +1,82 @@
--- Only one pattern is nearest to a root. Assumes nothing.
+-- The nearest-value rule fixes its pattern. A pattern is reached where the root is past the half-way point below it, or on that point and the
+-- pattern is even. What is reached stays reached going down, and the nearest pattern is the last that is reached: so there is one, the
+-- search by binary digits finds it, and it grows with the root. Assumes nothing.
 use mathlib.Core.Path.{_≡_, refl, sym, ap, ap₂, _∙_, subst, subst₂}
-use mathlib.Core.Logic.{_⊎_, inl, inr}
-use Prim.Native.Nat.{ℕ, zero, suc, _+_, _-_, _*_, _/_, _%_, _^_, _≤_, _<_, zero-le}
-use native.Mathlib.Nat.{le-refl, le-trans, le-of-eq, le-of-lt, lt-of-lt-of-le, lt-of-le-of-lt, lt-irrefl, eq-or-lt-of-le, zero-lt-suc, zero-mul, mul-one, mul-comm, mul-assoc, mul-le-mul-right, mul-le-mul-left, mul-le-mul, le-of-mul-le-mul-right, lt-of-mul-lt-mul-right, mul-lt-mul-of-pos-right, mul-pos, mul-mul-mul-comm, pow-zero, pow-succ', pow-suc, pow-le-pow-left, pow-lt-pow-left}
+use Prim.Native.Nat.{ℕ, zero, suc, _+_, _-_, _*_, _%_, _^_, _≤_, _<_, zero-le}
+use native.Mathlib.Nat.{le-trans, le-of-eq, le-of-suc-le-suc, le-antisymm, lt-of-lt-of-le, lt-of-not-le, zero-lt-suc, zero-mul, mul-comm, mul-assoc, mul-le-mul-right, mul-le-mul-left, mul-lt-mul-of-pos-right, mul-pos, mul-mul-mul-comm, pow-zero, pow-succ', pow-suc, pow-le-pow-left, pow-lt-pow-left}
 use native.Mathlib.Omega.{arith}
-use mathlib.Core.Bool.{Bool, true, false, not, _&&_, cond}
-use lib.Dec.{T, leb, ltb, eqb, leb→le, ltb→lt, nltb→le, eqb→eq}
+use mathlib.Core.Bool.{Bool, true, false, not, cond}
+use lib.Dec.{T, leb, ltb, eqb, leb→le, ltb→lt, le→leb, lt→ltb, nltb→le, nleb→lt, T-not, lit≤}
+use lib.Arith.{lt→nleb}
 use lib.Pow.{pow-pos}
 use lib.Ieee.Fits.{and-i, and-l, and-r}
 use Rattle.rules.specs.NearestValue.{units, within, nearestRoot, reaches, found, rootPattern}
+use Rattle.texel.proofs.Units.{units-le, units-lt}
 
-cond-yes : {X : Type 0} (b : Bool) (x y : X) → T b → cond b x y ≡ x
-cond-yes true x y t = refl
-cond-yes false x y t = absurd t
-
-cond-no : {X : Type 0} (b : Bool) (x y : X) → T (not b) → cond b x y ≡ y
-cond-no true x y t = absurd t
-cond-no false x y t = refl
-
--- ---- the two cases of `units`
-pub units-low : (b : ℕ) → b < 8388608 → units b ≡ b
-unfolding units
-units-low b h = cond-yes (ltb b 8388608) _ _ (lib.Dec.lt→ltb b 8388608 h)
-
-pub units-high : (b : ℕ) → 8388608 ≤ b → units b ≡ (8388608 + b % 8388608) * 2 ^ (b / 8388608 - 1)
-unfolding units
-units-high b h = cond-no (ltb b 8388608) _ _ (lib.Arith.le→nltb b 8388608 h)
-
--- a pattern by its field and its digits
-pub units-at : (x t : ℕ) → t < 8388608 → units (suc x * 8388608 + t) ≡ (8388608 + t) * 2 ^ x
-units-at x t h =
-    let b = suc x * 8388608 + t in
-    let q : b / 8388608 - 1 ≡ x = omega arith in
-    let r : b % 8388608 ≡ t = omega arith in
-    units-high b (omega arith) ∙ ap (λ (z : ℕ). (8388608 + z) * 2 ^ (b / 8388608 - 1)) r ∙ ap (λ (z : ℕ). (8388608 + t) * 2 ^ z) q
-
--- ---- it grows at each step
-split-pattern : (b : ℕ) → 8388608 ≤ b → b ≡ suc (b / 8388608 - 1) * 8388608 + b % 8388608
-split-pattern b h = omega arith
-
-step-same : (x t : ℕ) → t + 1 < 8388608 → units (suc x * 8388608 + t) < units (suc x * 8388608 + t + 1)
-step-same x t h =
-    let e : units (suc x * 8388608 + t + 1) ≡ (8388608 + (t + 1)) * 2 ^ x = ap units (regroup x t) ∙ units-at x (t + 1) h in
-    rw (units-at x t (omega arith), e) (mul-lt-mul-of-pos-right (omega arith) (pow-pos x))
-  where
-    regroup : (x t : ℕ) → suc x * 8388608 + t + 1 ≡ suc x * 8388608 + (t + 1)
-    regroup x t = omega arith
-
-step-up : (x t : ℕ) → t ≡ 8388607 → units (suc x * 8388608 + t) < units (suc x * 8388608 + t + 1)
-step-up x t h =
-    let e : units (suc x * 8388608 + t + 1) ≡ (8388608 + 0) * 2 ^ suc x = ap units (regroup x t h) ∙ units-at (suc x) 0 (omega arith) in
-    let p = pow-pos x in
-    let d = pow-succ' 2 x in
-    let g = units-at x t (omega arith) in
-    let k : (8388608 + t) * 2 ^ x ≡ 16777215 * 2 ^ x = ap (λ (z : ℕ). (8388608 + z) * 2 ^ x) h in
-    let l : 16777215 * 2 ^ x < (8388608 + 0) * 2 ^ suc x = rw d (omega arith) in
-    rw (g, e, k) l
-  where
-    regroup : (x t : ℕ) → t ≡ 8388607 → suc x * 8388608 + t + 1 ≡ suc (suc x) * 8388608 + 0
-    regroup x t h = omega arith
-
-units-suc : (b : ℕ) → units b < units (b + 1)
-units-suc b = go (ltb b 8388608) (ltb→lt b 8388608) (nltb→le b 8388608)
-  where
-    high : (x t : ℕ) (k : Bool) → t < 8388608 → (T k → t + 1 < 8388608) → (T (not k) → 8388608 ≤ t + 1) → units (suc x * 8388608 + t) < units (suc x * 8388608 + t + 1)
-    high x t true l h g = step-same x t (h tt)
-    high x t false l h g = let k = g tt in step-up x t (omega arith)
-
-    low : (b : ℕ) (k : Bool) → b < 8388608 → (T k → b + 1 < 8388608) → (T (not k) → 8388608 ≤ b + 1) → units b < units (b + 1)
-    low b true l h g = rw (units-low b l, units-low (b + 1) (h tt)) (omega arith)
-    low b false l h g =
-        let k = g tt in
-        let e : units (b + 1) ≡ 8388608 = ap units (last b l k) ∙ units-at 0 0 (omega arith) in
-        rw (units-low b l, e) l
-      where
-        last : (b : ℕ) → b < 8388608 → 8388608 ≤ b + 1 → b + 1 ≡ suc 0 * 8388608 + 0
-        last b l k = omega arith
-
-    go : (k : Bool) → (T k → b < 8388608) → (T (not k) → 8388608 ≤ b) → units b < units (b + 1)
-    go true h g = low b (ltb (b + 1) 8388608) (h tt) (ltb→lt (b + 1) 8388608) (nltb→le (b + 1) 8388608)
-    go false h g =
-        let x = b / 8388608 - 1 in
-        let t = b % 8388608 in
-        subst (λ (z : ℕ). units z < units (z + 1)) (sym (split-pattern b (g tt)))
-        (high x t (ltb (t + 1) 8388608) (omega arith) (ltb→lt (t + 1) 8388608) (nltb→le (t + 1) 8388608))
-
-pub units-mono : (a k : ℕ) → units a ≤ units (a + k)
-units-mono a zero = le-of-eq (ap units (none a))
-  where
-    none : (a : ℕ) → a ≡ a + 0
-    none a = omega arith
-units-mono a (suc k) = le-trans (units-mono a k) (le-trans (le-of-lt (units-suc (a + k))) (le-of-eq (ap units (more a k))))
-  where
-    more : (a k : ℕ) → a + k + 1 ≡ a + suc k
-    more a k = omega arith
-
-pub units-le : (a b : ℕ) → a ≤ b → units a ≤ units b
-units-le a b h = subst (λ (z : ℕ). units a ≤ units z) (back a b h) (units-mono a (b - a))
-  where
-    back : (a b : ℕ) → a ≤ b → a + (b - a) ≡ b
-    back a b h = omega arith
-
-pub units-lt : (a b : ℕ) → a < b → units a < units b
-units-lt a b h = lt-of-lt-of-le (units-suc a) (units-le (a + 1) b (omega arith))
-
--- ---- two nearest patterns, the second above the first
-pub weak : (k : Bool) (l v h : ℕ) → T (within k l v h) → (l ≤ v) × (v ≤ h)
-weak true l v h t = (leb→le l v (and-l (leb l v) (leb v h) t), leb→le v h (and-r (leb l v) (leb v h) t))
-weak false l v h t = (le-of-lt (ltb→lt l v (and-l (ltb l v) (ltb v h) t)), le-of-lt (ltb→lt v h (and-r (ltb l v) (ltb v h) t)))
-
-strict : (l v h : ℕ) → T (within false l v h) → (l < v) × (v < h)
-strict l v h t = (ltb→lt l v (and-l (ltb l v) (ltb v h) t), ltb→lt v h (and-r (ltb l v) (ltb v h) t))
-
-not-suc-zero : (p : ℕ) → suc p ≡ 0 → ⊥
-not-suc-zero p h = omega arith
-
--- of b and b + 1 one is odd, and it does not reach the half-way point
-pair : (k j : Bool) (b l v m h : ℕ) → (T k → b % 2 ≡ 0) → (T j → (b + 1) % 2 ≡ 0) → T (within k l v m) → T (within j m v h) → ⊥
-pair true true b l v m h e o s t = both b (e tt) (o tt)
-  where
-    both : (b : ℕ) → b % 2 ≡ 0 → (b + 1) % 2 ≡ 0 → ⊥
-    both b p q = omega arith
-pair false j b l v m h e o s t = let x = strict l v m s .1 in let y = weak j m v h t .0 in omega arith
-pair true false b l v m h e o s t = let x = weak true l v m s .1 in let y = strict m v h t .0 in omega arith
-
-next : (p n d b : ℕ) → T (nearestRoot p n d b) → T (nearestRoot p n d (b + 1)) → ⊥
-unfolding nearestRoot
-next p n d b s t =
-    pair (eqb (b % 2) 0) (eqb ((b + 1) % 2) 0) b ((units (b - 1) + units b) ^ p * d) ((2 ^ 150) ^ p * n) ((units b + units (b + 1)) ^ p * d) ((units (b + 1) + units (b + 1 + 1)) ^ p * d)
-    (eqb→eq (b % 2) 0) (eqb→eq ((b + 1) % 2) 0) s
-    (subst (λ (z : ℕ). T (within (eqb ((b + 1) % 2) 0) ((units z + units (b + 1)) ^ p * d) ((2 ^ 150) ^ p * n) ((units (b + 1) + units (b + 1 + 1)) ^ p * d))) (back b) t)
-  where
-    back : (b : ℕ) → b + 1 - 1 ≡ b
-    back b = omega arith
-
-far : (p n d b c : ℕ) → 0 < d → b + 1 < c → T (nearestRoot (suc p) n d b) → T (nearestRoot (suc p) n d c) → ⊥
-unfolding nearestRoot
-far p n d b c D h s t =
-    let x = weak (eqb (b % 2) 0) ((units (b - 1) + units b) ^ suc p * d) ((2 ^ 150) ^ suc p * n) ((units b + units (b + 1)) ^ suc p * d) s .1 in
-    let y = weak (eqb (c % 2) 0) ((units (c - 1) + units c) ^ suc p * d) ((2 ^ 150) ^ suc p * n) ((units c + units (c + 1)) ^ suc p * d) t .0 in
-    let u = units-lt b (c - 1) (omega arith) in
-    let w = units-lt (b + 1) c h in
-    let g : units b + units (b + 1) < units (c - 1) + units c = omega arith in
-    let z : (units b + units (b + 1)) ^ suc p * d < (units (c - 1) + units c) ^ suc p * d = mul-lt-mul-of-pos-right (pow-lt-pow-left g (not-suc-zero p)) D in
-    clash ((units b + units (b + 1)) ^ suc p * d) ((2 ^ 150) ^ suc p * n) ((units (c - 1) + units c) ^ suc p * d) x z y
-  where
-    clash : (a v c : ℕ) → v ≤ a → a < c → c ≤ v → ⊥
-    clash a v c x y z = omega arith
-
-apart : (p n d b c : ℕ) → 0 < d → b < c → T (nearestRoot (suc p) n d b) → T (nearestRoot (suc p) n d c) → ⊥
-apart p n d b c D h s t = go (eq-or-lt-of-le h)
-  where
-    go : (suc b ≡ c) ⊎ (suc b < c) → ⊥
-    go (inl e) = next (suc p) n d b s (subst (λ (z : ℕ). T (nearestRoot (suc p) n d z)) (up b c e) t)
-      where
-        up : (b c : ℕ) → suc b ≡ c → c ≡ b + 1
-        up b c e = omega arith
-    go (inr l) = far p n d b c D (omega arith) s t
-
--- the rule determines the pattern
-pub unique : (p n d b c : ℕ) → 0 < d → T (nearestRoot (suc p) n d b) → T (nearestRoot (suc p) n d c) → b ≡ c
-unique p n d b c D s t = go (ltb b c) (ltb→lt b c) (nltb→le b c) (ltb c b) (ltb→lt c b) (nltb→le c b)
-  where
-    go : (j : Bool) → (T j → b < c) → (T (not j) → c ≤ b) → (k : Bool) → (T k → c < b) → (T (not k) → b ≤ c) → b ≡ c
-    go true h g k i l = absurd (apart p n d b c D (h tt) s t)
-    go false h g true i l = absurd (apart p n d c b D (i tt) t s)
-    go false h g false i l = let x = g tt in let y = l tt in omega arith
-
--- ---- the search finds the nearest pattern
--- the half-way point below b, and v, in the rule's units
-abbrev halfway : ℕ → ℕ → ℕ → ℕ
+-- the half-way point below b, and the root, in the rule's units
+abbrev pub halfway : ℕ → ℕ → ℕ → ℕ
 halfway p d b = (units (b - 1) + units b) ^ p * d
 
-abbrev number : ℕ → ℕ → ℕ
+abbrev pub number : ℕ → ℕ → ℕ
 number p n = (2 ^ 150) ^ p * n
 
+-- ---- what is reached stays reached, going down
+at-least : (k : Bool) (l v : ℕ) → T (cond k (leb l v) (ltb l v)) → l ≤ v
+at-least true l v t = leb→le l v t
+at-least false l v t = le-trans (le-suc-self l) (ltb→lt l v t)
+  where
+    le-suc-self : (l : ℕ) → l ≤ suc l
+    le-suc-self l = omega arith
+
+past : (k : Bool) (l v : ℕ) → l < v → T (cond k (leb l v) (ltb l v))
+past true l v h = le→leb l v (omega arith)
+past false l v h = lt→ltb l v h
+
+pub reached-le : (p n d b : ℕ) → T (reaches p n d b) → halfway p d b ≤ number p n
+unfolding reaches
+reached-le p n d b t = at-least (eqb (b % 2) 0) (halfway p d b) (number p n) t
+
+grows : (p d b : ℕ) → 0 < d → halfway (suc p) d b < halfway (suc p) d (b + 1)
+grows p d b D =
+    let l = units-le (b - 1) b (omega arith) in
+    let g = units-lt b (b + 1) (omega arith) in
+    let e : b + 1 - 1 ≡ b = omega arith in
+    let h : units (b - 1) + units b < units (b + 1 - 1) + units (b + 1) = subst (λ (z : ℕ). units (b - 1) + units b < units z + units (b + 1)) (sym e) (omega arith) in
+    mul-lt-mul-of-pos-right (pow-lt-pow-left h (not-zero p)) D
+  where
+    not-zero : (p : ℕ) → suc p ≡ 0 → ⊥
+    not-zero p h = omega arith
+
+reached-below : (p n d b : ℕ) → 0 < d → T (reaches (suc p) n d (b + 1)) → T (reaches (suc p) n d b)
+reached-below p n d b D t =
+    unfold reaches in past (eqb (b % 2) 0) (halfway (suc p) d b) (number (suc p) n) (lt-of-lt-of-le (grows p d b D) (reached-le (suc p) n d (b + 1) t))
+
+pub reached-down : (p n d b c : ℕ) → 0 < d → b ≤ c → T (reaches (suc p) n d c) → T (reaches (suc p) n d b)
+reached-down p n d b c D h t = go (c - b) (subst (λ (z : ℕ). T (reaches (suc p) n d z)) (back b c h) t)
+  where
+    back : (b c : ℕ) → b ≤ c → c ≡ b + (c - b)
+    back b c h = omega arith
+
+    none : (b : ℕ) → b + 0 ≡ b
+    none b = omega arith
+
+    more : (b k : ℕ) → b + suc k ≡ b + k + 1
+    more b k = omega arith
+
+    go : (k : ℕ) → T (reaches (suc p) n d (b + k)) → T (reaches (suc p) n d b)
+    go zero t = subst (λ (z : ℕ). T (reaches (suc p) n d z)) (none b) t
+    go (suc k) t = go k (reached-below p n d (b + k) D (subst (λ (z : ℕ). T (reaches (suc p) n d z)) (more b k) t))
+
+-- a larger root reaches as much
+reached-more : (p n n' d b : ℕ) → n ≤ n' → T (reaches p n d b) → T (reaches p n' d b)
+unfolding reaches
+reached-more p n n' d b h t = go (eqb (b % 2) 0) t
+  where
+    go : (k : Bool) → T (cond k (leb (halfway p d b) (number p n)) (ltb (halfway p d b) (number p n))) → T (cond k (leb (halfway p d b) (number p n')) (ltb (halfway p d b) (number p n')))
+    go true t = le→leb (halfway p d b) (number p n') (le-trans (leb→le (halfway p d b) (number p n) t) (mul-le-mul-left ((2 ^ 150) ^ p) h))
+    go false t = lt→ltb (halfway p d b) (number p n') (lt-of-lt-of-le (ltb→lt (halfway p d b) (number p n) t) (mul-le-mul-left ((2 ^ 150) ^ p) h))
+
+-- ---- the nearest pattern is the last that is reached
 -- parity as a Bool, with what it says
 parity : (b : ℕ) → (k : Bool) × ((eqb (b % 2) 0 ≡ k) × (eqb ((b + 1) % 2) 0 ≡ not k))
 parity b = go (b % 2) refl (small b)
@@ -197,14 +99,37 @@ parity b = go (b % 2) refl (small b)
     go (suc (suc r)) e h = absurd (big r (subst (λ (z : ℕ). z < 2) e h))
 
 not-le : (a b : ℕ) → T (not (leb a b)) → T (ltb b a)
-not-le a b t = lib.Dec.lt→ltb b a (lib.Dec.nleb→lt a b t)
+not-le a b t = lt→ltb b a (nleb→lt a b t)
 
 not-lt : (a b : ℕ) → T (not (ltb a b)) → T (leb b a)
-not-lt a b t = lib.Dec.le→leb b a (nltb→le a b t)
+not-lt a b t = le→leb b a (nltb→le a b t)
 
 close : (k : Bool) (l v h : ℕ) → T (cond k (leb l v) (ltb l v)) → T (not (cond (not k) (leb h v) (ltb h v))) → T (within k l v h)
 close true l v h a b = and-i (leb l v) (leb v h) a (not-lt h v b)
 close false l v h a b = and-i (ltb l v) (ltb v h) a (not-le h v b)
+
+first-side : (k : Bool) (l v h : ℕ) → T (within k l v h) → T (cond k (leb l v) (ltb l v))
+first-side true l v h t = and-l (leb l v) (leb v h) t
+first-side false l v h t = and-l (ltb l v) (ltb v h) t
+
+second-side : (k : Bool) (l v h : ℕ) → T (within k l v h) → T (cond (not k) (leb h v) (ltb h v)) → ⊥
+second-side true l v h t s = let a = leb→le v h (and-r (leb l v) (leb v h) t) in let b = ltb→lt h v s in omega arith
+second-side false l v h t s = let a = ltb→lt v h (and-r (ltb l v) (ltb v h) t) in let b = leb→le h v s in omega arith
+
+pub nearest-reached : (p n d b : ℕ) → T (nearestRoot p n d b) → T (reaches p n d b)
+unfolding reaches nearestRoot
+nearest-reached p n d b t = first-side (eqb (b % 2) 0) (halfway p d b) (number p n) ((units b + units (b + 1)) ^ p * d) t
+
+before : (b : ℕ) → b + 1 - 1 ≡ b
+before b = omega arith
+
+nearest-last : (p n d b : ℕ) → T (nearestRoot p n d b) → T (reaches p n d (b + 1)) → ⊥
+unfolding reaches nearestRoot
+nearest-last p n d b t s =
+    let k = parity b in
+    let h = (units b + units (b + 1)) ^ p * d in
+    second-side (k .0) (halfway p d b) (number p n) h (subst (λ (z : Bool). T (within z (halfway p d b) (number p n) h)) (k .1 .0) t)
+    (subst₂ (λ (z : Bool) (i : ℕ). T (cond z (leb ((units i + units (b + 1)) ^ p * d) (number p n)) (ltb ((units i + units (b + 1)) ^ p * d) (number p n)))) (k .1 .1) (before b) s)
 
 last-reached : (p n d b : ℕ) → T (reaches p n d b) → T (not (reaches p n d (b + 1))) → T (nearestRoot p n d b)
 unfolding reaches nearestRoot
@@ -212,12 +137,25 @@ last-reached p n d b a c =
     let k = parity b in
     let a' = subst (λ (z : Bool). T (cond z (leb (halfway p d b) (number p n)) (ltb (halfway p d b) (number p n)))) (k .1 .0) a in
     let c' = subst (λ (z : Bool). T (not (cond z (leb (halfway p d (b + 1)) (number p n)) (ltb (halfway p d (b + 1)) (number p n))))) (k .1 .1) c in
-    let c'' = subst (λ (z : ℕ). T (not (cond (not (k .0)) (leb ((units z + units (b + 1)) ^ p * d) (number p n)) (ltb ((units z + units (b + 1)) ^ p * d) (number p n))))) (back b) c' in
+    let c'' = subst (λ (z : ℕ). T (not (cond (not (k .0)) (leb ((units z + units (b + 1)) ^ p * d) (number p n)) (ltb ((units z + units (b + 1)) ^ p * d) (number p n))))) (before b) c' in
     subst (λ (z : Bool). T (within z (halfway p d b) (number p n) ((units b + units (b + 1)) ^ p * d))) (sym (k .1 .0)) (close (k .0) (halfway p d b) (number p n) ((units b + units (b + 1)) ^ p * d) a' c'')
-  where
-    back : (b : ℕ) → b + 1 - 1 ≡ b
-    back b = omega arith
 
+-- a pattern that is reached is at most the nearest one, and one that is not reached is above it
+pub nearest-ge : (p n d b c : ℕ) → 0 < d → T (nearestRoot (suc p) n d b) → T (reaches (suc p) n d c) → c ≤ b
+nearest-ge p n d b c D t s = le-of-suc-le-suc (lt-of-not-le (λ (l : b < c). nearest-last (suc p) n d b t (reached-down p n d (b + 1) c D (omega arith) s)))
+
+pub nearest-lt : (p n d b c : ℕ) → 0 < d → T (nearestRoot (suc p) n d b) → T (not (reaches (suc p) n d c)) → b < c
+nearest-lt p n d b c D t s = lt-of-not-le (λ (l : c ≤ b). T-not (reaches (suc p) n d c) s (reached-down p n d c b D l (nearest-reached (suc p) n d b t)))
+
+-- the rule determines the pattern
+pub unique : (p n d b c : ℕ) → 0 < d → T (nearestRoot (suc p) n d b) → T (nearestRoot (suc p) n d c) → b ≡ c
+unique p n d b c D s t = le-antisymm (nearest-ge p n d c b D t (nearest-reached (suc p) n d b s)) (nearest-ge p n d b c D s (nearest-reached (suc p) n d c t))
+
+-- and it grows with the root
+pub nearest-mono : (p n n' d b c : ℕ) → 0 < d → n ≤ n' → T (nearestRoot (suc p) n d b) → T (nearestRoot (suc p) n' d c) → b ≤ c
+nearest-mono p n n' d b c D h s t = nearest-ge p n' d c b D t (reached-more (suc p) n n' d b h (nearest-reached (suc p) n d b s))
+
+-- ---- the search finds it
 -- from a reached b, with b + 2 ^ k not reached
 found-nearest : (p n d k b : ℕ) → T (reaches p n d b) → T (not (reaches p n d (b + 2 ^ k))) → T (nearestRoot p n d (found p n d k b))
 unfolding found
@@ -235,14 +173,14 @@ found-nearest p n d (suc k) b a c = go (λ x y z. found-nearest p n d k x y z) (
         subst (λ (z : Bool). T (nearestRoot p n d (found p n d k (cond z (b + 2 ^ k) b)))) (sym e)
         (ih b a (subst (λ (z : Bool). T (not z)) (sym e) tt))
 
--- from the top: v is below the half-way point at 2 ^ 31, which is past every pattern of an f32
 zero-reached : (p n d : ℕ) → T (reaches (suc p) n d 0)
 unfolding reaches
-zero-reached p n d = lib.Dec.le→leb ((units 0 + units 0) ^ suc p * d) ((2 ^ 150) ^ suc p * n) (le-trans (le-of-eq (ap (λ (z : ℕ). z * d) (pow-suc 0 p ∙ mul-comm (0 ^ p) 0 ∙ zero-mul (0 ^ p)) ∙ zero-mul d)) zero-le)
+zero-reached p n d = le→leb ((units 0 + units 0) ^ suc p * d) ((2 ^ 150) ^ suc p * n) (le-trans (le-of-eq (ap (λ (z : ℕ). z * d) (pow-suc 0 p ∙ mul-comm (0 ^ p) 0 ∙ zero-mul (0 ^ p)) ∙ zero-mul d)) zero-le)
 
+-- from the top: the root is below the half-way point at 2 ^ 31, which is past every pattern of an f32
 top-units : 2 ^ 278 ≤ units (2 ^ 31 - 1) + units (2 ^ 31)
 unfolding units
-top-units = lib.Dec.lit≤ tt
+top-units = lit≤ tt
 
 pub mul-pow : (a b q : ℕ) → (a * b) ^ q ≡ a ^ q * b ^ q
 mul-pow a b zero = pow-zero (a * b) ∙ sym (ap₂ _*_ (pow-zero a) (pow-zero b))
@@ -255,7 +193,7 @@ pow-pos' a (suc q) h = subst (λ (z : ℕ). 0 < z) (sym (pow-suc a q)) (mul-pos 
 top-not : (p n d : ℕ) → 0 < d → n < (2 ^ 128) ^ suc p * d → T (not (reaches (suc p) n d (2 ^ 31)))
 unfolding reaches
 top-not p n d D h =
-    lib.Arith.lt→nleb ((units (2 ^ 31 - 1) + units (2 ^ 31)) ^ suc p * d) ((2 ^ 150) ^ suc p * n)
+    lt→nleb ((units (2 ^ 31 - 1) + units (2 ^ 31)) ^ suc p * d) ((2 ^ 150) ^ suc p * n)
     (lt-of-lt-of-le (subst₂ (λ (x y : ℕ). x < y) (mul-comm n ((2 ^ 150) ^ suc p)) (mul-comm ((2 ^ 128) ^ suc p * d) ((2 ^ 150) ^ suc p)) (mul-lt-mul-of-pos-right h (pow-pos' (2 ^ 150) (suc p) (pow-pos 150))))
     (le-trans (le-of-eq (sym (mul-assoc ((2 ^ 150) ^ suc p) ((2 ^ 128) ^ suc p) d) ∙ ap (λ (z : ℕ). z * d) (sym (mul-pow (2 ^ 150) (2 ^ 128) (suc p)))))
     (mul-le-mul-right d (pow-le-pow-left top-units (suc p)))))

@@ -1,12 +1,12 @@
 -- The ranges of what reducing works out: a byte unpacked and a mean of four lie in 0 to 1, and what packs fits a byte. Each is a law of Range at constants.
 -- Assumes nothing.
-use mathlib.Core.Path.{_≡_, refl, sym, subst, subst₂}
-use Prim.Native.Nat.{ℕ, _*_, _≤_, _<_, zero-le}
+use mathlib.Core.Path.{_≡_, refl, subst₂}
+use Prim.Native.Nat.{ℕ, _≤_, _<_, zero-le}
 use native.Mathlib.Nat.{mul-le-mul-right, zero-lt-suc}
 use native.Mathlib.Omega.{arith}
 use mathlib.Core.Bool.{true, false}
 use lib.Dec.{T}
-use lib.IntN.{pos, negsuc}
+use lib.IntN.{pos}
 use lib.Ieee.{Float, fin, Format, binary32, round, neg, add, sub, mul, div, le, lt, ofInt, ofBits, toUnsigned}
 use lib.Ieee.Order.{round-mono}
 use lib.Ieee.Scale.{finite}

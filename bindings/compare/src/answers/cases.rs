@@ -1,0 +1,160 @@
+//! Which calls stand in the list: every refusal alone and with each later one, 01's own items, borders, drawn ones.
+
+use super::generator::{bytes, texels};
+use super::record::{record, Record, ARGUMENTS};
+use super::{BEFORE, LONGEST};
+use crate::call::{ask, Call, Outcome};
+use crate::cases::curve::Fourths;
+use crate::cases::refusals::OF_CALL;
+use crate::cases::spoil::{accepted, of_picture, taken_kind, Arguments, TARGET};
+use crate::cases::values::sides;
+use crate::plain::{chain_texels, Cut, Document01, NORMAL, SRGB};
+use crate::random::Random;
+use crate::reading::Reading;
+
+/// Accepted calls of each number.
+const ACCEPTED: [usize; 13] = [200, 250, 40, 100, 80, 250, 200, 120, 250, 120, 200, 200, 160];
+
+/// Times that each refusal stands in the list alone; with each later one it stands once.
+const ALONE: usize = 3;
+
+/// A list that grows.
+struct List {
+    records: Vec<Record>,
+    random: Random,
+}
+
+/// The list of a seed.
+pub fn sample(seed: u64) -> Vec<Record> {
+    let mut list = List {
+        records: Vec::new(),
+        random: Random::of(seed, "answers"),
+    };
+    items(&mut list);
+    curve(&mut list);
+    for call in 0..OF_CALL.len() {
+        refusals(&mut list, call);
+        for _ in 0..ACCEPTED[call] {
+            accepted_call(&mut list, call);
+        }
+    }
+    list.records
+}
+
+impl List {
+    /// Adds a call over buffers of a seed, with what the plain reading answers.
+    fn add(&mut self, seed: u32, call: &Call) {
+        let mut outcome = Outcome::new();
+        ask(&Reading::<Document01>::NEW, call, &mut outcome);
+        self.records.push(record(seed, call, &outcome));
+    }
+
+    /// Adds the call of this number with these arguments, its buffers from a drawn seed.
+    fn add_arguments(&mut self, call: usize, mut arguments: Arguments) {
+        let seed = self.random.between(1, 2147483646) as u32;
+        arguments.refill(|count| texels(seed, count), |count| bytes(seed, count), BEFORE);
+        self.add(seed, &arguments.call(call));
+    }
+
+    /// Adds a chain whose texels stand in the record itself.
+    fn add_written_out(&mut self, kind: u32, width: u32, height: u32, level_0: &[u32]) {
+        let mut texels = level_0.to_vec();
+        texels.resize(chain_texels::<Document01>(kind, width, height) as usize, 0);
+        let call = Call::GenerateMipmaps {
+            kind,
+            width,
+            height,
+            texels: &texels,
+        };
+        self.add(0, &call);
+        let last = self.records.last_mut().expect("one was added");
+        last[ARGUMENTS..ARGUMENTS + level_0.len()].copy_from_slice(level_0);
+    }
+}
+
+/// The reference items that are chains, and flat Normal pictures of every byte up to 64.
+fn items(list: &mut List) {
+    for (kind, left, right) in [
+        (4, 0x00FF00FF, 0xFF0000FF),
+        (1, 0x01FF80FF, 0x01FF80FF),
+        (2, 0x11FF0022, 0x3300FF44),
+        (0, 0xFF0000FF, 0x000000FF),
+    ] {
+        list.add_written_out(kind, 2, 1, &[left, right]);
+    }
+    for byte in 0..=64u32 {
+        list.add_written_out(NORMAL, 2, 1, &[byte * 0x0101_0101; 2]);
+    }
+}
+
+/// For each value of T four bytes whose reduction changes when it is one place off; three of them to a picture.
+fn curve(list: &mut List) {
+    let fourths = Fourths::new();
+    let found: Vec<[u32; 4]> = (0..256).flat_map(|k| fourths.sensitive(k)).flatten().collect();
+    for three in found.chunks_exact(3) {
+        let texel = |i: usize| three[0][i] << 24 | three[1][i] << 16 | three[2][i] << 8 | 255;
+        list.add_written_out(SRGB, 2, 2, &[texel(0), texel(1), texel(2), texel(3)]);
+    }
+}
+
+/// Every refusal of a call alone, and with each later one.
+fn refusals(list: &mut List, call: usize) {
+    let numbers = OF_CALL[call];
+    for (i, first) in numbers.iter().enumerate() {
+        for _ in 0..ALONE {
+            refused_call(list, call, &[*first]);
+        }
+        for second in &numbers[i + 1..] {
+            refused_call(list, call, &[*first, *second]);
+        }
+    }
+}
+
+/// A call for which these refusals' conditions hold.
+fn refused_call(list: &mut List, call: usize, chosen: &[u32]) {
+    let mut arguments = accepted(&mut list.random, call, 0);
+    // A kind that is not taken comes first, so that a kind above 4 is not lost where both are chosen.
+    for refusal in chosen.iter().rev() {
+        arguments.spoil(&mut list.random, call, *refusal);
+    }
+    arguments.lend(&mut list.random, call, chosen.contains(&3), chosen.contains(&TARGET));
+    list.add_arguments(call, arguments);
+}
+
+/// An accepted call: a small picture, or a long one where its chain is not too long for the list.
+fn accepted_call(list: &mut List, call: usize) {
+    let kind = taken_kind(&mut list.random, call);
+    let (width, height) = sides(&mut list.random);
+    let has_buffer = !matches!(call, 0 | 5 | 10);
+    let too_long = chain_texels::<Document01>(kind, width, height) as usize + 2 > LONGEST;
+    let mut arguments = if call == 2 || (has_buffer && (too_long || list.random.one_in(3))) {
+        accepted(&mut list.random, call, 0)
+    } else {
+        of_picture(&mut list.random, 0, kind, width, height)
+    };
+    if call == 3 {
+        let cut = drawn_cut(&mut list.random, arguments.width, arguments.height);
+        arguments.set_cut(cut);
+    }
+    arguments.lend(&mut list.random, call, false, false);
+    list.add_arguments(call, arguments);
+}
+
+/// A cut that is wholly inside.
+fn drawn_cut(random: &mut Random, width: u32, height: u32) -> Cut {
+    let order = random.below(width.min(height).ilog2() as u64 + 1) as u32;
+    let mut along = |side: u32| {
+        let units = side >> order;
+        let corner = random.below(units as u64) as u32;
+        let length = random.below((units - corner) as u64) as u32 + 1;
+        (corner << order, length << order)
+    };
+    let ((corner_x, cut_width), (corner_y, cut_height)) = (along(width), along(height));
+    Cut {
+        order,
+        corner_x,
+        corner_y,
+        width: cut_width,
+        height: cut_height,
+    }
+}

@@ -1,0 +1,132 @@
+//! One record: 36 words of 32 bits.
+
+use super::generator::checksum;
+use crate::call::{Call, Outcome};
+use crate::plain::Lanes;
+
+/// Words of a record.
+pub const WORDS: usize = 36;
+
+/// Where the arguments begin that not every call has.
+pub const ARGUMENTS: usize = 6;
+
+/// Where the answer begins: the refusal, twelve words, the sum over the buffer that was written.
+pub const ANSWER: usize = 22;
+
+/// A record.
+pub type Record = [u32; WORDS];
+
+/// Puts words one behind the other.
+struct Words<'a> {
+    record: &'a mut Record,
+    place: usize,
+}
+
+impl Words<'_> {
+    fn put(&mut self, words: &[u32]) -> &mut Self {
+        self.record[self.place..self.place + words.len()].copy_from_slice(words);
+        self.place += words.len();
+        self
+    }
+
+    fn floats(&mut self, lanes: &Lanes) -> &mut Self {
+        self.put(&lanes.map(f32::to_bits))
+    }
+}
+
+/// A call whose buffers come from a seed, and its outcome.
+pub fn record(seed: u32, call: &Call, outcome: &Outcome) -> Record {
+    let mut record = [0; WORDS];
+    let (width, height) = call.sides();
+    record[..ARGUMENTS].copy_from_slice(&[
+        call.number() as u32,
+        seed,
+        call.kind().unwrap_or(0),
+        width,
+        height,
+        length_read(call) as u32,
+    ]);
+    put_arguments(&mut record, call);
+    record[ANSWER..].copy_from_slice(&answer(call, outcome));
+    record
+}
+
+/// The length of the buffer that is read: texels, or bytes of a cross.
+fn length_read(call: &Call) -> usize {
+    match call {
+        Call::GenerateMipmaps { texels, .. } => texels.len(),
+        Call::CutCross { bytes, .. } => bytes.len(),
+        Call::Cut { source, .. } => source.texels.len(),
+        Call::LevelView { picture, .. } => picture.texels.len(),
+        _ => call.picture().map_or(0, |picture| picture.lent.texels.len()),
+    }
+}
+
+/// The arguments that not every call has.
+fn put_arguments(record: &mut Record, call: &Call) {
+    let mut words = Words {
+        record,
+        place: ARGUMENTS,
+    };
+    match call {
+        Call::LevelSizes { level, .. } => words.put(&[*level]),
+        Call::GenerateMipmaps { .. } => &mut words,
+        Call::CutCross { faces, .. } => words.put(&[faces.len() as u32]),
+        Call::Cut { cut, target, .. } => words.put(&[
+            cut.order,
+            cut.corner_x,
+            cut.corner_y,
+            cut.width,
+            cut.height,
+            target.len() as u32,
+        ]),
+        Call::LevelView { level, face, .. } => words.put(&[*level, *face]),
+        Call::ComputeMipLevel { steps, .. } => words.floats(steps),
+        Call::Sample4Rgb { codes, u, v, steps, .. } | Call::Sample4Alpha { codes, u, v, steps, .. } => {
+            words.put(codes).floats(u).floats(v).floats(steps)
+        }
+        Call::SampleBilinearRgb {
+            codes,
+            u,
+            v,
+            level,
+            faces,
+            ..
+        } => words.put(codes).floats(u).floats(v).put(&[*level]).put(faces),
+        Call::SampleBilinearAlpha { codes, u, v, level, .. } => words.put(codes).floats(u).floats(v).put(&[*level]),
+        Call::CubemapUvFromNormal { directions: d } => words.floats(&d.x).floats(&d.y).floats(&d.z),
+        Call::SampleCubemapRgb {
+            directions: d, levels, ..
+        } => words.floats(&d.x).floats(&d.y).floats(&d.z).put(levels),
+        Call::SampleCubemapTrilinearRgb {
+            directions: d, levels, ..
+        } => words.floats(&d.x).floats(&d.y).floats(&d.z).floats(levels),
+    };
+}
+
+/// The answer: the refusal, twelve words that are 0 where there is nothing to say, the sum over the written buffer.
+pub fn answer(call: &Call, outcome: &Outcome) -> [u32; WORDS - ANSWER] {
+    let mut words = [0; WORDS - ANSWER];
+    words[0] = outcome.refusal;
+    let left = &outcome.buffer[..call.before().len()];
+    if matches!(
+        call,
+        Call::GenerateMipmaps { .. } | Call::CutCross { .. } | Call::Cut { .. }
+    ) {
+        words[13] = checksum(left);
+    }
+    if outcome.refusal == 0 {
+        let wide = |count: usize| (0..count).map(|i| outcome.words[2 * i]).collect::<Vec<u32>>();
+        let said = match call {
+            Call::LevelSizes { .. } => wide(4),
+            Call::LevelView { .. } => wide(2),
+            Call::GenerateMipmaps { .. } | Call::CutCross { .. } | Call::Cut { .. } => wide(1),
+            Call::ComputeMipLevel { .. } => outcome.words[..1].to_vec(),
+            Call::Sample4Alpha { .. } | Call::SampleBilinearAlpha { .. } => outcome.words[..4].to_vec(),
+            Call::CubemapUvFromNormal { .. } => [&outcome.words[..8], &outcome.words[10..14]].concat(),
+            _ => outcome.words[..12].to_vec(),
+        };
+        words[1..1 + said.len()].copy_from_slice(&said);
+    }
+    words
+}

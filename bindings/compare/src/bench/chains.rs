@@ -1,0 +1,93 @@
+//! Chains of each kind, the cut and the cross, with memcpy of the same texels as the floor.
+
+use super::{time, Row};
+use crate::plain::{chain_texels, level_texels, Cut, Document01, Lent};
+use crate::random::Random;
+use crate::unit::Unit;
+
+/// The chain of a square picture; a thing is a texel of level 0.
+pub fn chain<'a>(unit: &'a dyn Unit, random: &mut Random, name: &str, kind: u32, side: u32) -> Row<'a> {
+    let level_0 = level_texels::<Document01>(kind, side, side, 0) as usize;
+    let whole = chain_texels::<Document01>(kind, side, side) as usize;
+    let mut texels: Vec<u32> = (0..level_0).map(|_| random.next() as u32).collect();
+    let first = texels.clone();
+    let (from, mut to) = (texels.clone(), vec![0u32; level_0]);
+    texels.resize(whole, 0);
+    Row {
+        name: name.to_string(),
+        count: level_0 as u64,
+        unit: Some(Box::new(move || {
+            let mut written = 0;
+            time(|| unit.generate_mipmaps(kind, side, side, &mut texels, &mut written))
+        })),
+        source: source_chain(kind, side, first),
+        floor: Some(Box::new(move || time(|| to.copy_from_slice(&from)))),
+    }
+}
+
+/// The source's chain: `generate_mipmaps` alone, over a texture made before.
+#[cfg(source)]
+fn source_chain<'a>(kind: u32, side: u32, level_0: Vec<u32>) -> Option<super::Timed<'a>> {
+    Some(Box::new(move || {
+        let mut texture = crate::source::texture(kind, side, side, level_0.clone());
+        let taken = time(|| texture.generate_mipmaps());
+        std::hint::black_box(texture.data.last());
+        taken
+    }))
+}
+
+#[cfg(not(source))]
+fn source_chain<'a>(_kind: u32, _side: u32, _level_0: Vec<u32>) -> Option<super::Timed<'a>> {
+    None
+}
+
+/// The cut of a quarter of a square picture; a thing is a texel cut.
+pub fn cut<'a>(unit: &'a dyn Unit, random: &mut Random, side: u32) -> Row<'a> {
+    let texels: Vec<u32> = (0..side * side).map(|_| random.next() as u32).collect();
+    let half = side / 2;
+    let of = Cut {
+        order: 2,
+        corner_x: half / 2,
+        corner_y: half / 2,
+        width: half,
+        height: half,
+    };
+    let mut target = vec![0u32; (half * half) as usize];
+    let (from, mut to) = (target.clone(), target.clone());
+    Row {
+        name: format!("cut, {half} square of {side} square"),
+        count: target.len() as u64,
+        unit: Some(Box::new(move || {
+            let source = Lent {
+                kind: 4,
+                width: side,
+                height: side,
+                texels: &texels,
+            };
+            let mut written = 0;
+            time(|| unit.cut(&source, &of, &mut target, &mut written))
+        })),
+        source: None,
+        floor: Some(Box::new(move || time(|| to.copy_from_slice(&from)))),
+    }
+}
+
+/// The cutting of a cross with square faces; a thing is a texel of a face.
+pub fn cross<'a>(unit: &'a dyn Unit, random: &mut Random, side: u32) -> Row<'a> {
+    let (width, height) = (4 * side, 3 * side);
+    let bytes: Vec<u8> = (0..width as usize * height as usize * 4)
+        .map(|_| random.next() as u8)
+        .collect();
+    let mut faces = vec![0u32; 6 * (side * side) as usize];
+    let (from, mut to) = (faces.clone(), faces.clone());
+    Row {
+        name: format!("cross, six faces of {side} square"),
+        count: faces.len() as u64,
+        unit: Some(Box::new(move || {
+            let mut written = 0;
+            time(|| unit.cut_cross(width, height, &bytes, &mut faces, &mut written))
+        })),
+        source: None,
+        floor: Some(Box::new(move || time(|| to.copy_from_slice(&from)))),
+    }
+}

@@ -1,0 +1,73 @@
+//! `bench [ROUNDS]`: unit and source side by side in one process, turn by turn, the best of several rounds, as ratios.
+
+use swathecold_compare::bench::arguments::{drawn, Chain};
+use swathecold_compare::bench::{chains, lookups, table, unit, Best, Row};
+use swathecold_compare::random::Random;
+use swathecold_compare::unit::Unit;
+
+/// Rounds where none are given.
+const ROUNDS: usize = 9;
+
+/// Kind codes with their names.
+const KINDS: [(&str, u32); 5] = [
+    ("SRGB", 0),
+    ("Normal", 1),
+    ("MetallicRoughness", 2),
+    ("Cubemap", 3),
+    ("Linear", 4),
+];
+
+fn main() {
+    let rounds = std::env::args()
+        .nth(1)
+        .map_or(Ok(ROUNDS), |word| word.parse())
+        .unwrap_or(ROUNDS);
+    let (name, unit) = unit();
+    if cfg!(not(source)) {
+        println!("source comparison skipped: set SWRASTER_SRC\n");
+    }
+    let mut random = Random::of(1, "bench");
+    println!("{}", of_chains(&unit, name, &mut random, rounds));
+    println!("{}", of_growth(&unit, name, &mut random, rounds));
+    println!("{}", of_lookups(&unit, name, &mut random, rounds));
+}
+
+/// Chains of each kind, the cut and the cross.
+fn of_chains(unit: &dyn Unit, name: &str, random: &mut Random, rounds: usize) -> String {
+    let mut rows: Vec<Best> = Vec::new();
+    for (kind_name, kind) in KINDS {
+        let side = if kind == 3 { 1024 } else { 2048 };
+        let faces = if kind == 3 { " x 6" } else { "" };
+        let row = chains::chain(unit, random, &format!("{kind_name}, {side} square{faces}"), kind, side);
+        rows.push(row.best(rounds));
+    }
+    rows.push(chains::cut(unit, random, 2048).best(rounds));
+    rows.push(chains::cross(unit, random, 512).best(rounds));
+    table(
+        "Chains, cut and cross",
+        "a texel of level 0 (of the cut, of the faces)",
+        name,
+        &rows,
+    )
+}
+
+/// How a chain's time grows from 256 to 4096 square.
+fn of_growth(unit: &dyn Unit, name: &str, random: &mut Random, rounds: usize) -> String {
+    let mut rows: Vec<Best> = Vec::new();
+    for (kind_name, kind) in [("Linear", 4), ("SRGB", 0)] {
+        for side in [256, 512, 1024, 2048, 4096] {
+            let row = chains::chain(unit, random, &format!("{kind_name}, {side} square"), kind, side);
+            rows.push(row.best(rounds));
+        }
+    }
+    table("How a chain's time grows", "a texel of level 0", name, &rows)
+}
+
+/// Every lookup.
+fn of_lookups(unit: &dyn Unit, name: &str, random: &mut Random, rounds: usize) -> String {
+    let (plain, cube) = (Chain::drawn(random, 4, 512), Chain::drawn(random, 3, 256));
+    let arguments = drawn(random, 2048, 256);
+    let rows = lookups::rows(unit, &plain, &cube, &arguments);
+    let best: Vec<Best> = rows.into_iter().map(|row: Row| row.best(rounds)).collect();
+    table("Lookups", "a call of four lanes", name, &best)
+}

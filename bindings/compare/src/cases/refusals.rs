@@ -1,0 +1,55 @@
+//! Every refusal of every call, alone and together with every choice of the others: the order is part of the contract.
+
+use super::spoil::{accepted, TARGET};
+use super::Run;
+
+/// The refusals that each call can give, by its number; the second 3 of cut and cross is that of the target.
+pub const OF_CALL: [&[u32]; 13] = [
+    &[1, 2, 6],
+    &[1, 2, 3],
+    &[10, 3, TARGET],
+    &[1, 2, 3, 8, 11, TARGET],
+    &[1, 2, 3, 8, 6],
+    &[2, 5],
+    &[1, 2, 3, 8, 4, 5],
+    &[1, 2, 3, 8, 4, 5],
+    &[1, 2, 3, 8, 4, 6, 5],
+    &[1, 2, 3, 8, 4, 6, 5],
+    &[7],
+    &[1, 2, 3, 8, 7],
+    &[1, 2, 3, 8, 7, 5],
+];
+
+/// Each choice of refusals is tried so many times, with other spoiled arguments.
+const TIMES: u64 = 300;
+
+/// Runs the part.
+pub fn run(run: &mut Run) {
+    for (call, refusals) in OF_CALL.iter().enumerate() {
+        for choice in 0..1u32 << refusals.len() {
+            let chosen: Vec<u32> = (0..refusals.len())
+                .filter(|i| choice >> i & 1 == 1)
+                .map(|i| refusals[i])
+                .collect();
+            for _ in 0..TIMES.div_ceil(run.scale.every as u64) {
+                once(run, call, &chosen);
+            }
+        }
+    }
+}
+
+/// One call with the chosen refusals' conditions holding.
+fn once(run: &mut Run, call: usize, chosen: &[u32]) {
+    let number = run.new_number();
+    let mut arguments = accepted(&mut run.random, call, number);
+    // A kind that is not taken first, so that a kind above 4 is not lost where both are chosen.
+    for refusal in chosen
+        .iter()
+        .filter(|refusal| **refusal == 8)
+        .chain(chosen.iter().filter(|refusal| **refusal != 8))
+    {
+        arguments.spoil(&mut run.random, call, *refusal);
+    }
+    arguments.lend(&mut run.random, call, chosen.contains(&3), chosen.contains(&TARGET));
+    run.call(&arguments.call(call));
+}

@@ -1,0 +1,175 @@
+//! Deliberate slips, each in one rule of the plain reading. The comparison is tried on them: it must see every one.
+
+use crate::plain::{decoded, Axis, Document01, Rules, Wrap};
+use crate::random::ulps;
+use crate::reading::Reading;
+use crate::unit::Unit;
+
+/// A slip: rules that are 01's but for what is given.
+macro_rules! slips {
+    ($($(#[$text:meta])* $name:ident { $($rule:item)* })*) => {
+        $($(#[$text])* pub struct $name;
+
+        impl Rules for $name { $($rule)* })*
+
+        /// Every slip by its name, as a unit.
+        pub fn all() -> Vec<(&'static str, Box<dyn Unit>)> {
+            vec![$((stringify!($name), Box::new(Reading::<$name>::NEW))),*]
+        }
+    };
+}
+
+slips! {
+    /// Unpacking by a product with 1/255.
+    UnpackByProduct { fn unpack(byte: u32) -> f32 { byte as f32 * (1.0 / 255.0) } }
+
+    /// Rounding in the pack.
+    RoundingPack { fn pack(value: f32) -> u32 { (value * 255.0 + 0.5) as u32 } }
+
+    /// Keeping the third column of a 3-wide level.
+    ThirdColumn {
+        fn second(first: u32, previous_side: u32) -> u32 {
+            if first + 3 == previous_side { first + 2 } else { Document01::second(first, previous_side) }
+        }
+    }
+
+    /// Sides halved upward.
+    SidesUpward {
+        fn level_side(side: u32, m: u32) -> u32 { (0..m.min(32)).fold(side, |side, _| side.div_ceil(2)).max(1) }
+    }
+
+    /// Every level from level 0.
+    FromLevel0 { fn made_from(_m: u32) -> u32 { 0 } }
+
+    /// Sums in pairs.
+    SumsInPairs { fn mean(p: [f32; 4]) -> f32 { ((p[0] + p[1]) + (p[2] + p[3])) / 4.0 } }
+
+    /// Treating Normal as a plain mean.
+    NormalAsMean { fn normal(p: [f32; 4]) -> f32 { Self::mean(p) } }
+
+    /// Roughness as a plain mean.
+    RoughnessAsMean { fn root_mean_square(p: [f32; 4]) -> f32 { Self::mean(p) } }
+
+    /// The root one place too small.
+    RootFromBelow {
+        fn root_mean_square(p: [f32; 4]) -> f32 { ulps(Document01::root_mean_square(p), -1) }
+    }
+
+    /// SRGB: the k whose T(k) is nearest the mean.
+    NearestOnCurve {
+        fn encoded(mean: f32) -> u32 {
+            let below = Document01::encoded(mean);
+            let above = (below + 1).min(255);
+            if decoded(above) - mean < mean - decoded(below) { above } else { below }
+        }
+    }
+
+    /// A cut that forgets its corner.
+    CornerForgotten { fn cut_place(_corner: u32, place: u32) -> u32 { place } }
+
+    /// A cross with +Y and -Y exchanged.
+    CrossOrder { const CROSS: [(u32, u32); 6] = [(2, 1), (0, 1), (1, 2), (1, 0), (1, 1), (3, 1)]; }
+
+    /// Refusal 4 before 8.
+    FourBeforeEight { const ORDER: [u32; 9] = [1, 2, 3, 4, 8, 6, 7, 5, 9]; }
+
+    /// Refusal 5 before 6 and 7, in the order of the numbers.
+    FiveBeforeSix { const ORDER: [u32; 9] = [1, 2, 3, 8, 4, 5, 6, 7, 9]; }
+
+    /// Coordinate 2048 refused.
+    CoordinateLimit { fn coordinate_taken(coordinate: f32) -> bool { coordinate.abs() < 2048.0 } }
+
+    /// A largest magnitude of 2^-60 refused.
+    DirectionLimit {
+        fn direction_taken(d: [f32; 3]) -> bool {
+            Document01::direction_taken(d) && d.iter().any(|c| c.abs() > f32::powi(2.0, -60))
+        }
+    }
+
+    /// Code 0 as Repeat.
+    NotGivenRepeats { const NOT_GIVEN: Wrap = Wrap::Repeat; }
+
+    /// Repeat by the remainder of the magnitude.
+    RepeatOfMagnitude { fn repeat(t: i64, d: i64) -> i64 { t.abs() % d } }
+
+    /// Mirroring as OpenGL does.
+    MirrorAsOpenGl {
+        fn mirrored(t: i64, d: i64) -> i64 {
+            let r = t.rem_euclid(2 * d);
+            r.min(2 * d - 1 - r)
+        }
+    }
+
+    /// Texel numbers cut towards zero.
+    NumberTowardsZero { fn texel_number(coordinate: f32, side: f32) -> i64 { (coordinate * side) as i64 } }
+
+    /// The footprint's sum in the order of the steps.
+    FootprintOrder {
+        fn footprint(x: f32, y: f32, z: f32, w: f32) -> f32 { ((x * x + y * y) + (z * z + w * w)) * 0.5 }
+    }
+
+    /// The footprint rounded only at the end.
+    FootprintRoundedOnce {
+        fn footprint(x: f32, y: f32, z: f32, w: f32) -> f32 {
+            let [x, y, z, w] = [x, y, z, w].map(f64::from);
+            (((x * x + z * z) + (y * y + w * w)) * 0.5) as f32
+        }
+    }
+
+    /// The footprint as the larger of the two squared lengths.
+    FootprintLarger {
+        fn footprint(x: f32, y: f32, z: f32, w: f32) -> f32 { (x * x + z * z).max(y * y + w * w) }
+    }
+
+    /// A level that is not lowered to the top level.
+    LevelNotLowered { fn lowered(level: u32, _top: u32) -> u32 { level } }
+
+    /// The half taken off before scaling.
+    HalfBeforeScaling { fn bilinear_place(coordinate: f32, side: f32) -> f32 { (coordinate - 0.5 / side) * side } }
+
+    /// A fraction held below 1.
+    FractionBelow1 { fn fraction(place: f32, floor: f32) -> f32 { (place - floor).min(ulps(1.0, -1)) } }
+
+    /// p10 and p01 exchanged.
+    CornersExchanged {
+        fn blend_colour(p: [f32; 4], fx: f32, fy: f32) -> f32 {
+            Document01::blend_colour([p[0], p[2], p[1], p[3]], fx, fy)
+        }
+    }
+
+    /// Colour blended as alpha is, along x first and then along y.
+    ColourAsAlpha {
+        fn blend_colour(p: [f32; 4], fx: f32, fy: f32) -> f32 { Document01::blend_alpha(p, fx, fy) }
+    }
+
+    /// Alpha blended along y first.
+    AlphaAlongY {
+        fn blend_alpha(p: [f32; 4], fx: f32, fy: f32) -> f32 {
+            Document01::blend_alpha([p[0], p[2], p[1], p[3]], fy, fx)
+        }
+    }
+
+    /// Letting Y win ties against X.
+    TiesToY {
+        fn axis([x, y, z]: [f32; 3]) -> Axis {
+            let (x, y, z) = (x.abs(), y.abs(), z.abs());
+            if y >= x && y >= z { Axis::Y } else if x >= z { Axis::X } else { Axis::Z }
+        }
+    }
+
+    /// The -X face not turned.
+    FaceNotTurned {
+        fn before_scaling(axis: Axis, d: [f32; 3]) -> (f32, f32) {
+            if axis == Axis::X { (-d[2], -d[1]) } else { Document01::before_scaling(axis, d) }
+        }
+    }
+
+    /// A product with 1/major.
+    ScaledByProduct { fn scaled(q: f32, major: f32) -> f32 { 0.5 * (q * (1.0 / major) + 1.0) } }
+
+    /// A half upward.
+    HalfUpward { fn nearest_place(value: f32) -> u32 { (value + 0.5).floor() as u32 } }
+
+    /// Trilinear by two weights.
+    TwoWeights { fn between_levels(c0: f32, c1: f32, t: f32) -> f32 { c0 * (1.0 - t) + c1 * t } }
+}

@@ -1,0 +1,113 @@
+//! From a call that shows a difference to a smaller one that shows it too.
+
+use crate::call::{ask, Call, Outcome, UNTOUCHED};
+use crate::left_out::left_out;
+use crate::plain::{level_sizes, top_level, Document01, Lanes, CUBEMAP};
+use crate::text::{shown, Shown};
+use crate::unit::{Directions, Unit};
+
+/// The difference of the smallest call found, the call itself where none is smaller.
+pub fn smaller(
+    reading: &dyn Unit,
+    other: &dyn Unit,
+    is_source: bool,
+    call: &Call,
+    expected: &Outcome,
+    got: &Outcome,
+) -> Shown {
+    let mut least = shown(call, expected, got);
+    let mut attempt = |call: &Call| {
+        let (mut a, mut b) = (Outcome::new(), Outcome::new());
+        ask(reading, call, &mut a);
+        if is_source && (a.refusal != 0 || !other.has(call)) {
+            return;
+        }
+        ask(other, call, &mut b);
+        if is_source {
+            left_out(call, &a, &mut b, 0);
+        }
+        let found = shown(call, &a, &b);
+        if a != b && found.size < least.size {
+            least = found;
+        }
+    };
+    if let Some((kind, four)) = four_texels(call, expected, got) {
+        let faces = if kind == CUBEMAP { 6 } else { 1 };
+        let mut texels = four.repeat(faces);
+        texels.resize(5 * faces, UNTOUCHED);
+        attempt(&Call::GenerateMipmaps {
+            kind,
+            width: 2,
+            height: 2,
+            texels: &texels,
+        });
+    }
+    for lane in 0..4 {
+        if let Some(call) = one_lane(call, lane) {
+            attempt(&call);
+        }
+    }
+    least
+}
+
+/// The four texels from which a chain's first wrong texel was to be made.
+fn four_texels(call: &Call, expected: &Outcome, got: &Outcome) -> Option<(u32, [u32; 4])> {
+    let Call::GenerateMipmaps {
+        kind, width, height, ..
+    } = *call
+    else {
+        return None;
+    };
+    let wrong = expected.buffer.iter().zip(&got.buffer).position(|(a, b)| a != b)?;
+    for m in 1..=top_level(width, height) {
+        let [start, w, h, _] = level_sizes::<Document01>(kind, width, height, m)
+            .ok()?
+            .map(|n| n as usize);
+        let [before, w0, h0, _] = level_sizes::<Document01>(kind, width, height, m - 1)
+            .ok()?
+            .map(|n| n as usize);
+        let faces = if kind == CUBEMAP { 6 } else { 1 };
+        if wrong < start || wrong >= start + faces * w * h {
+            continue;
+        }
+        let (face, place) = ((wrong - start) / (w * h), (wrong - start) % (w * h));
+        let (x0, y0) = (place % w * 2, place / w * 2);
+        let (x1, y1) = ((x0 + 1).min(w0 - 1), (y0 + 1).min(h0 - 1));
+        let at = |x: usize, y: usize| expected.buffer[before + face * w0 * h0 + y * w0 + x];
+        return Some((kind, [at(x0, y0), at(x1, y0), at(x0, y1), at(x1, y1)]));
+    }
+    None
+}
+
+/// The call with one of its lanes in the place of all four.
+fn one_lane<'a>(call: &Call<'a>, lane: usize) -> Option<Call<'a>> {
+    let mut call = *call;
+    let same = |lanes: &mut Lanes| *lanes = [lanes[lane]; 4];
+    let same_direction = |d: &mut Directions| {
+        d.x = [d.x[lane]; 4];
+        d.y = [d.y[lane]; 4];
+        d.z = [d.z[lane]; 4];
+    };
+    match &mut call {
+        Call::Sample4Rgb { u, v, .. } | Call::Sample4Alpha { u, v, .. } | Call::SampleBilinearAlpha { u, v, .. } => {
+            same(u);
+            same(v);
+        }
+        Call::SampleBilinearRgb { u, v, faces, .. } => {
+            same(u);
+            same(v);
+            *faces = [faces[lane]; 4];
+        }
+        Call::CubemapUvFromNormal { directions } => same_direction(directions),
+        Call::SampleCubemapRgb { directions, levels, .. } => {
+            same_direction(directions);
+            *levels = [levels[lane]; 4];
+        }
+        Call::SampleCubemapTrilinearRgb { directions, levels, .. } => {
+            same_direction(directions);
+            same(levels);
+        }
+        _ => return None,
+    }
+    Some(call)
+}

@@ -1,0 +1,244 @@
+//! The unit's calls. Every number is taken and every buffer: what is wrong with them is refused by the paper's numbers.
+//!
+//! Safety of the calls below: a slice goes in as its own pointer and length, an array as a pointer to that many entries, an out
+//! parameter is a local, and Rust's borrows keep them apart. The unit itself is proved to stay inside what it is lent.
+
+use crate::boundary as c;
+use crate::refusal::Refusal;
+use crate::types::{CubemapUv, Cut, Lanes, LevelSizes, Sampler, Vec3x4};
+
+/// Twelve numbers as the boundary hands them out: four reds, four greens, four blues.
+fn lanes_of(rgb: [f32; 12]) -> Vec3x4 {
+    let four = |at: usize| [rgb[at], rgb[at + 1], rgb[at + 2], rgb[at + 3]];
+    Vec3x4 { x: four(0), y: four(4), z: four(8) }
+}
+
+/// Where a level starts, its sides, and the chain's texel count. Refusals: 1, 2, 6.
+///
+/// ```
+/// use swathecold::{level_sizes, TextureType};
+/// let level = level_sizes(TextureType::Linear, 5, 3, 1)?;
+/// assert_eq!((level.start, level.width, level.height, level.total), (15, 2, 1, 18));
+/// # Ok::<(), swathecold::Refusal>(())
+/// ```
+pub fn level_sizes(kind: impl Into<u32>, width: u32, height: u32, level: u32) -> Result<LevelSizes, Refusal> {
+    let mut sizes = [0u64; 4];
+    Refusal::of(unsafe { c::swathecold_level_sizes(kind.into(), width, height, level, sizes.as_mut_ptr()) })?;
+    let [start, width, height, total] = sizes;
+    Ok(LevelSizes { start: start as usize, width: width as u32, height: height as u32, total: total as usize })
+}
+
+/// Level 0 stands in `texels`; fills the levels behind it and answers how many texels the chain has. Entries past them stay.
+/// Refusals: 1, 2, 3.
+///
+/// ```
+/// use swathecold::{generate_mipmaps, TextureType};
+/// let mut texels = [0xFF0000FF, 0x000000FF, 0];
+/// assert_eq!(generate_mipmaps(TextureType::SRGB, 2, 1, &mut texels)?, 3);
+/// assert_eq!(texels[2], 0xBB0000FF);
+/// # Ok::<(), swathecold::Refusal>(())
+/// ```
+pub fn generate_mipmaps(kind: impl Into<u32>, width: u32, height: u32, texels: &mut [u32]) -> Result<usize, Refusal> {
+    let mut written = 0;
+    let (at, len) = (texels.as_mut_ptr(), texels.len());
+    Refusal::of(unsafe { c::swathecold_generate_mipmaps(kind.into(), width, height, at, len, &mut written) })?;
+    Ok(written as usize)
+}
+
+/// The six faces of a cross of `width * height` RGBA pixels, one behind the other; answers the texels written. Refusals: 10, 3.
+pub fn cut_cross(width: u32, height: u32, bytes: &[u8], faces: &mut [u32]) -> Result<usize, Refusal> {
+    let mut written = 0;
+    let (at, len) = (faces.as_mut_ptr(), faces.len());
+    Refusal::of(unsafe { c::swathecold_cut_cross(width, height, bytes.as_ptr(), bytes.len(), at, len, &mut written) })?;
+    Ok(written as usize)
+}
+
+/// Part of a picture's level 0; answers the texels written. Refusals: 1, 2, 3, 8, 11, 3.
+pub fn cut(
+    kind: impl Into<u32>,
+    width: u32,
+    height: u32,
+    source: &[u32],
+    part: Cut,
+    target: &mut [u32],
+) -> Result<usize, Refusal> {
+    let mut written = 0;
+    let (from, from_len, to, to_len) = (source.as_ptr(), source.len(), target.as_mut_ptr(), target.len());
+    let Cut { order, x, y, width: cut_width, height: cut_height } = part;
+    Refusal::of(unsafe {
+        c::swathecold_cut(
+            kind.into(),
+            width,
+            height,
+            from,
+            from_len,
+            order,
+            x,
+            y,
+            cut_width,
+            cut_height,
+            to,
+            to_len,
+            &mut written,
+        )
+    })?;
+    Ok(written as usize)
+}
+
+/// A level itself, of a cubemap one face of it, as part of the chain that is lent. Refusals: 1, 2, 3, 8, 6.
+pub fn level_view(
+    kind: impl Into<u32>,
+    width: u32,
+    height: u32,
+    texels: &[u32],
+    level: u32,
+    face: u32,
+) -> Result<&[u32], Refusal> {
+    let mut part = [0u64; 2];
+    let (at, len) = (texels.as_ptr(), texels.len());
+    Refusal::of(unsafe { c::swathecold_level_view(kind.into(), width, height, at, len, level, face, part.as_mut_ptr()) })?;
+    Ok(&texels[part[0] as usize..][..part[1] as usize])
+}
+
+/// The level that four steps ask for; the sides are level 0's. Refusals: 2, 5.
+///
+/// ```
+/// let sixteenth = 1.0 / 16.0;
+/// assert_eq!(swathecold::compute_mip_level(64, 64, [sixteenth, 0.0, 0.0, sixteenth])?, 2);
+/// # Ok::<(), swathecold::Refusal>(())
+/// ```
+pub fn compute_mip_level(width: u32, height: u32, du_dv: Lanes) -> Result<u32, Refusal> {
+    let mut level = 0;
+    Refusal::of(unsafe { c::swathecold_compute_mip_level(width, height, du_dv.as_ptr(), &mut level) })?;
+    Ok(level)
+}
+
+/// The nearest texel's colour in four lanes, at the level that the steps ask for. Refusals: 1, 2, 3, 8, 4, 5, 9.
+#[allow(clippy::too_many_arguments)]
+pub fn sample4_rgb(
+    kind: impl Into<u32>,
+    width: u32,
+    height: u32,
+    texels: &[u32],
+    sampler: Sampler,
+    u: Lanes,
+    v: Lanes,
+    du_dv: Lanes,
+) -> Result<Vec3x4, Refusal> {
+    let mut rgb = [0.0; 12];
+    let (at, len, s, t) = (texels.as_ptr(), texels.len(), sampler.wrap_s, sampler.wrap_t);
+    let (u, v, steps, out) = (u.as_ptr(), v.as_ptr(), du_dv.as_ptr(), rgb.as_mut_ptr());
+    Refusal::of(unsafe { c::swathecold_sample4_rgb(kind.into(), width, height, at, len, s, t, u, v, steps, out) })?;
+    Ok(lanes_of(rgb))
+}
+
+/// The same for alpha. Refusals: 1, 2, 3, 8, 4, 5, 9.
+#[allow(clippy::too_many_arguments)]
+pub fn sample4_alpha(
+    kind: impl Into<u32>,
+    width: u32,
+    height: u32,
+    texels: &[u32],
+    sampler: Sampler,
+    u: Lanes,
+    v: Lanes,
+    du_dv: Lanes,
+) -> Result<Lanes, Refusal> {
+    let mut alpha = [0.0; 4];
+    let (at, len, s, t) = (texels.as_ptr(), texels.len(), sampler.wrap_s, sampler.wrap_t);
+    let (u, v, steps, out) = (u.as_ptr(), v.as_ptr(), du_dv.as_ptr(), alpha.as_mut_ptr());
+    Refusal::of(unsafe { c::swathecold_sample4_alpha(kind.into(), width, height, at, len, s, t, u, v, steps, out) })?;
+    Ok(alpha)
+}
+
+/// Four colours, each blended from four texels of one level. `array_slice` is 0 in each lane but for a cubemap.
+/// Refusals: 1, 2, 3, 8, 4, 6, 5, 9.
+#[allow(clippy::too_many_arguments)]
+pub fn sample_bilinear_rgb(
+    kind: impl Into<u32>,
+    width: u32,
+    height: u32,
+    texels: &[u32],
+    sampler: Sampler,
+    u: Lanes,
+    v: Lanes,
+    mip_level: u32,
+    array_slice: [u32; 4],
+) -> Result<Vec3x4, Refusal> {
+    let mut rgb = [0.0; 12];
+    let (at, len, s, t) = (texels.as_ptr(), texels.len(), sampler.wrap_s, sampler.wrap_t);
+    let (u, v, faces, out) = (u.as_ptr(), v.as_ptr(), array_slice.as_ptr(), rgb.as_mut_ptr());
+    Refusal::of(unsafe {
+        c::swathecold_sample_bilinear_rgb(kind.into(), width, height, at, len, s, t, u, v, mip_level, faces, out)
+    })?;
+    Ok(lanes_of(rgb))
+}
+
+/// The same for alpha, which blends along x first and then along y; no cubemap. Refusals: 1, 2, 3, 8, 4, 6, 5, 9.
+#[allow(clippy::too_many_arguments)]
+pub fn sample_bilinear_alpha(
+    kind: impl Into<u32>,
+    width: u32,
+    height: u32,
+    texels: &[u32],
+    sampler: Sampler,
+    u: Lanes,
+    v: Lanes,
+    mip_level: u32,
+) -> Result<Lanes, Refusal> {
+    let mut alpha = [0.0; 4];
+    let (at, len, s, t) = (texels.as_ptr(), texels.len(), sampler.wrap_s, sampler.wrap_t);
+    let (u, v, out) = (u.as_ptr(), v.as_ptr(), alpha.as_mut_ptr());
+    Refusal::of(unsafe { c::swathecold_sample_bilinear_alpha(kind.into(), width, height, at, len, s, t, u, v, mip_level, out) })?;
+    Ok(alpha)
+}
+
+/// Four directions to their faces, +X -X +Y -Y +Z -Z as 0 to 5, and the places on them. Refusal: 7.
+///
+/// ```
+/// use swathecold::{cubemap_uv_from_normal, Vec3x4};
+/// let up = Vec3x4 { x: [0.0; 4], y: [2.0; 4], z: [1.0; 4] };
+/// let found = cubemap_uv_from_normal(up)?;
+/// assert_eq!((found.faces[0], found.u[0], found.v[0]), (2, 0.5, 0.75));
+/// # Ok::<(), swathecold::Refusal>(())
+/// ```
+pub fn cubemap_uv_from_normal(n: Vec3x4) -> Result<CubemapUv, Refusal> {
+    let (mut uv, mut faces) = ([0.0; 8], [0u32; 4]);
+    let (x, y, z) = (n.x.as_ptr(), n.y.as_ptr(), n.z.as_ptr());
+    Refusal::of(unsafe { c::swathecold_cubemap_uv_from_normal(x, y, z, uv.as_mut_ptr(), faces.as_mut_ptr()) })?;
+    Ok(CubemapUv { u: [uv[0], uv[1], uv[2], uv[3]], v: [uv[4], uv[5], uv[6], uv[7]], faces })
+}
+
+/// The nearest texel of a cubemap in four directions; a level above the top is lowered to it. Refusals: 1, 2, 3, 8, 7, 9.
+pub fn sample_cubemap_rgb(
+    kind: impl Into<u32>,
+    width: u32,
+    height: u32,
+    texels: &[u32],
+    normal: Vec3x4,
+    mip_level: [u32; 4],
+) -> Result<Vec3x4, Refusal> {
+    let mut rgb = [0.0; 12];
+    let (at, len, x, y, z) = (texels.as_ptr(), texels.len(), normal.x.as_ptr(), normal.y.as_ptr(), normal.z.as_ptr());
+    let (levels, out) = (mip_level.as_ptr(), rgb.as_mut_ptr());
+    Refusal::of(unsafe { c::swathecold_sample_cubemap_rgb(kind.into(), width, height, at, len, x, y, z, levels, out) })?;
+    Ok(lanes_of(rgb))
+}
+
+/// The same between two levels; a fractional level outside 0 to the top is held to it. Refusals: 1, 2, 3, 8, 7, 5, 9.
+pub fn sample_cubemap_trilinear_rgb(
+    kind: impl Into<u32>,
+    width: u32,
+    height: u32,
+    texels: &[u32],
+    normal: Vec3x4,
+    mip_level: Lanes,
+) -> Result<Vec3x4, Refusal> {
+    let mut rgb = [0.0; 12];
+    let (at, len, x, y, z) = (texels.as_ptr(), texels.len(), normal.x.as_ptr(), normal.y.as_ptr(), normal.z.as_ptr());
+    let (levels, out) = (mip_level.as_ptr(), rgb.as_mut_ptr());
+    Refusal::of(unsafe {
+        c::swathecold_sample_cubemap_trilinear_rgb(kind.into(), width, height, at, len, x, y, z, levels, out)
+    })?;
+    Ok(lanes_of(rgb))
+}

@@ -1,0 +1,150 @@
+//! A picture with its levels, made by the unit.
+
+use crate::calls;
+use crate::refusal::Refusal;
+use crate::types::{Cut, Lanes, LevelSizes, Sampler, TextureType, Vec3x4};
+
+/// A picture with all its levels. It holds its chain to itself, so the levels are always those that the unit made of its level 0,
+/// and it says how often that level 0 was reduced since it was brought in.
+///
+/// ```
+/// use swathecold::{Picture, TextureType};
+/// let grain: Vec<u32> = (0..64u32).map(|i| (i * 4) << 24 | 0xFF).collect();
+/// let picture = Picture::new(TextureType::Linear, 8, 8, &grain)?;
+///
+/// // reducing twice, reopening, reducing once is level 3
+/// let again = picture.reopen(2)?;
+/// assert_eq!(again.level(1)?, picture.level(3)?);
+/// assert_eq!((picture.reductions(), again.reductions()), (0, 2));
+/// # Ok::<(), swathecold::Refusal>(())
+/// ```
+#[derive(Clone, Debug, PartialEq, Eq)]
+pub struct Picture {
+    texture_type: TextureType,
+    width: u32,
+    height: u32,
+    reductions: u32,
+    texels: Vec<u32>,
+}
+
+impl Picture {
+    /// The picture whose level 0 begins `level0`, row by row; a cubemap's six faces one behind the other. Refusals: 1, 2, 3.
+    pub fn new(texture_type: TextureType, width: u32, height: u32, level0: &[u32]) -> Result<Picture, Refusal> {
+        let LevelSizes { total, .. } = calls::level_sizes(texture_type, width, height, 0)?;
+        let faces = if texture_type == TextureType::Cubemap { 6 } else { 1 };
+        let first = faces * width as usize * height as usize;
+        if level0.len() < first {
+            // shorter than the level is shorter than the chain: the unit refuses what is lent
+            calls::level_view(texture_type, width, height, level0, 0, 0)?;
+        }
+        let mut texels = Vec::with_capacity(total);
+        texels.extend_from_slice(&level0[..first]);
+        texels.resize(total, 0);
+        calls::generate_mipmaps(texture_type, width, height, &mut texels)?;
+        Ok(Picture { texture_type, width, height, reductions: 0, texels })
+    }
+
+    /// A level of this picture as a picture of its own, which knows how often it was reduced. Refusal: 6.
+    pub fn reopen(&self, level: u32) -> Result<Picture, Refusal> {
+        let sizes = self.level_sizes(level)?;
+        let mut opened = Picture::new(self.texture_type, sizes.width, sizes.height, &self.texels[sizes.start..])?;
+        opened.reductions = self.reductions + level;
+        Ok(opened)
+    }
+
+    /// An aligned part of level 0 as a picture of its own. Refusals: 8, 11.
+    pub fn cut(&self, part: Cut) -> Result<Picture, Refusal> {
+        let room = part.width.min(4096) as usize * part.height.min(4096) as usize;
+        let mut target = vec![0; room];
+        calls::cut(self.texture_type, self.width, self.height, &self.texels, part, &mut target)?;
+        let mut opened = Picture::new(self.texture_type, part.width, part.height, &target)?;
+        opened.reductions = self.reductions;
+        Ok(opened)
+    }
+
+    pub fn texture_type(&self) -> TextureType {
+        self.texture_type
+    }
+
+    pub fn width(&self) -> u32 {
+        self.width
+    }
+
+    pub fn height(&self) -> u32 {
+        self.height
+    }
+
+    /// How often level 0 was reduced since it was brought in.
+    pub fn reductions(&self) -> u32 {
+        self.reductions
+    }
+
+    /// The top level: levels are numbered 0 to this.
+    pub fn max_mip_level(&self) -> u32 {
+        self.width.max(self.height).ilog2()
+    }
+
+    /// The whole chain.
+    pub fn texels(&self) -> &[u32] {
+        &self.texels
+    }
+
+    /// Where a level stands in the chain. Refusal: 6.
+    pub fn level_sizes(&self, level: u32) -> Result<LevelSizes, Refusal> {
+        calls::level_sizes(self.texture_type, self.width, self.height, level)
+    }
+
+    /// A level of a picture that is no cubemap. Refusals: 6; 8 is not given, since face 0 is there for every kind: of a cubemap
+    /// this is face +X.
+    pub fn level(&self, level: u32) -> Result<&[u32], Refusal> {
+        self.face(level, 0)
+    }
+
+    /// One face of a level. Refusals: 8, 6.
+    pub fn face(&self, level: u32, face: u32) -> Result<&[u32], Refusal> {
+        calls::level_view(self.texture_type, self.width, self.height, &self.texels, level, face)
+    }
+
+    /// See [`crate::compute_mip_level`].
+    pub fn compute_mip_level(&self, du_dv: Lanes) -> Result<u32, Refusal> {
+        calls::compute_mip_level(self.width, self.height, du_dv)
+    }
+
+    /// See [`crate::sample4_rgb`].
+    pub fn sample4_rgb(&self, sampler: Sampler, u: Lanes, v: Lanes, du_dv: Lanes) -> Result<Vec3x4, Refusal> {
+        calls::sample4_rgb(self.texture_type, self.width, self.height, &self.texels, sampler, u, v, du_dv)
+    }
+
+    /// See [`crate::sample4_alpha`].
+    pub fn sample4_alpha(&self, sampler: Sampler, u: Lanes, v: Lanes, du_dv: Lanes) -> Result<Lanes, Refusal> {
+        calls::sample4_alpha(self.texture_type, self.width, self.height, &self.texels, sampler, u, v, du_dv)
+    }
+
+    /// See [`crate::sample_bilinear_rgb`].
+    pub fn sample_bilinear_rgb(
+        &self,
+        sampler: Sampler,
+        u: Lanes,
+        v: Lanes,
+        mip_level: u32,
+        array_slice: [u32; 4],
+    ) -> Result<Vec3x4, Refusal> {
+        let (kind, width, height) = (self.texture_type, self.width, self.height);
+        calls::sample_bilinear_rgb(kind, width, height, &self.texels, sampler, u, v, mip_level, array_slice)
+    }
+
+    /// See [`crate::sample_bilinear_alpha`].
+    pub fn sample_bilinear_alpha(&self, sampler: Sampler, u: Lanes, v: Lanes, mip_level: u32) -> Result<Lanes, Refusal> {
+        calls::sample_bilinear_alpha(self.texture_type, self.width, self.height, &self.texels, sampler, u, v, mip_level)
+    }
+
+    /// See [`crate::sample_cubemap_rgb`].
+    pub fn sample_cubemap_rgb(&self, normal: Vec3x4, mip_level: [u32; 4]) -> Result<Vec3x4, Refusal> {
+        calls::sample_cubemap_rgb(self.texture_type, self.width, self.height, &self.texels, normal, mip_level)
+    }
+
+    /// See [`crate::sample_cubemap_trilinear_rgb`].
+    pub fn sample_cubemap_trilinear_rgb(&self, normal: Vec3x4, mip_level: Lanes) -> Result<Vec3x4, Refusal> {
+        calls::sample_cubemap_trilinear_rgb(self.texture_type, self.width, self.height, &self.texels, normal, mip_level)
+    }
+}

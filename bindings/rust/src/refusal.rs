@@ -1,0 +1,66 @@
+//! Why a call did nothing.
+
+use std::error::Error;
+use std::fmt;
+
+/// A call refused its input, by the paper's number. Nothing was handed out and nothing changed.
+///
+/// ```
+/// use swathecold::{level_sizes, TextureType};
+/// let refused = level_sizes(TextureType::Linear, 4097, 1, 0).unwrap_err();
+/// assert_eq!(refused.number(), 2);
+/// assert_eq!(
+///     refused.to_string(),
+///     "refused 2: a side of the picture is 0 or above 4096; scale the picture to sides from 1 to 4096"
+/// );
+/// ```
+#[derive(Clone, Copy, Debug, PartialEq, Eq, Hash)]
+pub struct Refusal(u32);
+
+impl Refusal {
+    /// `Ok` where the number is 0.
+    pub(crate) fn of(number: u32) -> Result<(), Refusal> {
+        match number {
+            0 => Ok(()),
+            n => Err(Refusal(n)),
+        }
+    }
+
+    /// The paper's number.
+    pub fn number(self) -> u32 {
+        self.0
+    }
+
+    /// What was wrong, and what to do about it.
+    fn words(self) -> (&'static str, &'static str) {
+        match self.0 {
+            1 => ("the kind is unknown", "use 0 to 4"),
+            2 => ("a side of the picture is 0 or above 4096", "scale the picture to sides from 1 to 4096"),
+            3 => ("a buffer is too short", "ask level_sizes for the chain's texel count and lend that many"),
+            4 => ("a wrap code is unknown", "use 10497, 33071, 33648, or 0 where the file gives none"),
+            5 => (
+                "a coordinate, step or fractional level is not finite, or a coordinate is beyond 2048",
+                "mend the lane that has it",
+            ),
+            6 => ("the level is above the top level", "ask for a level up to floor(log2(larger side))"),
+            7 => ("a direction is not finite, or too short or too long to have a face", "scale it to a length near 1"),
+            8 => ("the call does not take this kind or this face", "use the call for cubemaps, or a face from 0 to 5 of one"),
+            9 => ("a texel's place lies outside its level", "report this: no input is known to give it"),
+            10 => ("the cross's faces have sides outside 1 to 4096", "lend a cross of 4 by 3 faces"),
+            11 => (
+                "the cut is not aligned, is empty or is not inside",
+                "use a corner and sides that are multiples of 2 to the order",
+            ),
+            _ => ("the number is none of the paper's", "report this"),
+        }
+    }
+}
+
+impl fmt::Display for Refusal {
+    fn fmt(&self, f: &mut fmt::Formatter<'_>) -> fmt::Result {
+        let (what, mend) = self.words();
+        write!(f, "refused {}: {what}; {mend}", self.0)
+    }
+}
+
+impl Error for Refusal {}

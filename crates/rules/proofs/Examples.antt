@@ -1,0 +1,149 @@
+-- Small pictures and numbers, worked out by antt itself from the definitions: where levels, faces and cuts stand, which four texels
+-- are taken, in which order refusals are given, and the slips that look right. Assumes nothing.
+use mathlib.Core.Path.{_≡_, refl}
+use mathlib.Core.Bool.{true, false}
+use mathlib.Core.List.{[], _∷_}
+use Prim.Native.Nat.{ℕ, _+_, _*_}
+use lib.IntN.{pos}
+use lib.Ieee.{neg, add, sub, mul, div, le, lt, ofBits, ofInt, toUnsigned}
+use Rattle.rules.specs.Kinds.{normal, cubemap, linear, facesOf, rgba}
+use Rattle.rules.specs.Sizes.{sideAt, halvings, log2, top, sizeAt, start, count}
+use Rattle.rules.specs.Levels.{tab, grid, texel, quad, next, level, chain, filled}
+use Rattle.rules.specs.Cuts.{cut, matchingCut, cutTaken}
+use Rattle.rules.specs.View.{faceStart, faceView}
+use Rattle.rules.specs.Floats.{zero32, one32, magnitude}
+use Rattle.rules.specs.Reducing.{eachOf, meanByte, linearOf, normalByte, normalOf, reduceOf}
+use Rattle.rules.specs.Pictures.{chainOf, filledOf}
+use Rattle.rules.specs.Wrapping.{remainderOf, mirroredOf}
+use Rattle.rules.specs.Faces.{signOf, oddOf, spotAt, spotOf}
+use Rattle.rules.specs.Refusals.{_orElse_, kindRefusal, sidesRefusal, bufferRefusal, levelRefusal, faceRefusal, noCubemapRefusal, cutRefusal, pictureRefusal, chainRefusal, viewRefusal, cutCallRefusal}
+use Rattle.rules.specs.Answers.{answer, chainLeaves, viewAnswer, cutLeaves}
+
+-- ---- sizes
+
+-- a side is held to 1
+five-halved : (sideAt 1 5 ≡ 2) × (sideAt 2 5 ≡ 1) × (sideAt 3 5 ≡ 1)
+unfolding sideAt
+five-halved = (refl, refl, refl)
+
+-- 5 by 3 has levels 0 to 2 and 18 texels; the larger side counts
+five-by-three : (top 5 3 ≡ 2) × (top 3 5 ≡ 2) × (start 1 5 3 1 ≡ 15) × (start 1 5 3 2 ≡ 17) × (count 1 5 3 ≡ 18)
+unfolding count start sizeAt sideAt top log2 halvings
+five-by-three = (refl, refl, refl, refl, refl)
+
+-- ---- levels, with a rule that shows which four texels were taken
+
+show4 : ℕ → ℕ → ℕ → ℕ → ℕ
+show4 a b c d = ((a * 100 + b) * 100 + c) * 100 + d
+
+-- the third column of a level 3 wide takes no part, nor does the third row of one 3 high
+three-wide : level show4 1 1 3 1 (1 ∷ 2 ∷ 3 ∷ []) ≡ 1020102 ∷ []
+unfolding show4 level next grid tab quad texel
+three-wide = refl
+
+three-high : level show4 1 1 1 3 (1 ∷ 2 ∷ 3 ∷ []) ≡ 1010202 ∷ []
+unfolding show4 level next grid tab quad texel
+three-high = refl
+
+-- each face of a cubemap is reduced by itself
+six-faces : level show4 6 1 2 2 (tab 24 (λ i. i)) ≡ 10203 ∷ 4050607 ∷ 8091011 ∷ 12131415 ∷ 16171819 ∷ 20212223 ∷ []
+unfolding show4 level next grid tab quad texel
+six-faces = refl
+
+-- each level is made from the one before
+three-levels : chain show4 1 3 4 1 (1 ∷ 2 ∷ 3 ∷ 4 ∷ []) ≡ 1 ∷ 2 ∷ 3 ∷ 4 ∷ 1020102 ∷ 3040304 ∷ 1050610090504 ∷ []
+unfolding show4 chain next grid tab quad texel
+three-levels = refl
+
+-- what a buffer of five holds after the two levels of a picture 3 by 1, the last entry as it was
+filled-three : filled show4 1 2 3 1 (1 ∷ 2 ∷ 3 ∷ 77 ∷ 88 ∷ []) ≡ 1 ∷ 2 ∷ 3 ∷ 1020102 ∷ 88 ∷ []
+unfolding show4 filled chain start sizeAt sideAt next grid tab quad texel
+filled-three = refl
+
+-- a chain goes on to its top level
+to-the-top : chainOf linear 2 1 (0 ∷ 0xFFFFFFFF ∷ []) ≡ 0 ∷ 0xFFFFFFFF ∷ 0x7F7F7F7F ∷ []
+unfolding chainOf chain next grid tab quad texel top log2 halvings facesOf reduceOf linearOf eachOf meanByte rgba add mul div ofBits ofInt toUnsigned
+to-the-top = refl
+
+-- ---- cuts
+
+-- a cut of 2 by 1 at (1, 1) of a picture 3 by 2
+cut-corner : cut 3 2 1 1 2 1 (1 ∷ 2 ∷ 3 ∷ 4 ∷ 5 ∷ 6 ∷ []) ≡ 5 ∷ 6 ∷ []
+unfolding cut grid tab texel
+cut-corner = refl
+
+-- the matching cut of level 1, of sides 2 by 2, where level 0 was cut at (2, 2)
+cut-matching : matchingCut 1 4 4 2 2 2 2 (1 ∷ 2 ∷ 3 ∷ 4 ∷ []) ≡ 4 ∷ []
+unfolding matchingCut sideAt cut grid tab texel
+cut-matching = refl
+
+-- of 4 by 4, order 1: taken; a corner, a side not a multiple of 2; not wholly inside; a side 0; an order above 12
+cuts-taken : (cutTaken 1 4 4 2 2 2 2 ≡ true) × (cutTaken 1 4 4 1 2 2 2 ≡ false) × (cutTaken 1 4 4 2 2 2 1 ≡ false)
+    × (cutTaken 1 4 4 2 2 2 4 ≡ false) × (cutTaken 1 4 4 2 2 2 0 ≡ false) × (cutTaken 13 4 4 0 0 4 4 ≡ false)
+unfolding cutTaken
+cuts-taken = (refl, refl, refl, refl, refl, refl)
+
+-- ---- refusals, in their order
+
+-- of the chain: 1 before 2 before 3
+chain-order : (chainRefusal 5 0 1 0 ≡ 1) × (chainRefusal linear 0 1 0 ≡ 2) × (chainRefusal linear 1 1 0 ≡ 3) × (chainRefusal linear 1 1 1 ≡ 0)
+unfolding chainRefusal pictureRefusal kindRefusal sidesRefusal bufferRefusal _orElse_ facesOf count start sizeAt sideAt top log2 halvings
+chain-order = (refl, refl, refl, refl)
+
+-- sides 1 to 4,096
+side-range : (sidesRefusal 4096 1 ≡ 0) × (sidesRefusal 1 4096 ≡ 0) × (sidesRefusal 4097 1 ≡ 2) × (sidesRefusal 1 4097 ≡ 2) × (sidesRefusal 1 0 ≡ 2)
+unfolding sidesRefusal
+side-range = (refl, refl, refl, refl, refl)
+
+-- of the view: 3 before 8 before 6
+view-order : (viewRefusal linear 1 1 0 1 1 ≡ 3) × (viewRefusal linear 1 1 1 1 1 ≡ 8) × (viewRefusal linear 1 1 1 1 0 ≡ 6) × (viewRefusal linear 1 1 1 0 0 ≡ 0)
+unfolding viewRefusal chainRefusal pictureRefusal kindRefusal sidesRefusal bufferRefusal faceRefusal levelRefusal _orElse_ facesOf count start sizeAt sideAt top log2 halvings
+view-order = (refl, refl, refl, refl)
+
+-- of the cut: 3 (source) before 8 before 11 before 3 (target)
+cut-order : (cutCallRefusal cubemap 1 1 5 13 (record { x = 0; y = 0 }) (record { x = 1; y = 1 }) 0 ≡ 3)
+    × (cutCallRefusal cubemap 1 1 6 13 (record { x = 0; y = 0 }) (record { x = 1; y = 1 }) 0 ≡ 8)
+    × (cutCallRefusal linear 1 1 1 13 (record { x = 0; y = 0 }) (record { x = 1; y = 1 }) 0 ≡ 11)
+    × (cutCallRefusal linear 1 1 1 0 (record { x = 0; y = 0 }) (record { x = 1; y = 1 }) 0 ≡ 3)
+    × (cutCallRefusal linear 1 1 1 0 (record { x = 0; y = 0 }) (record { x = 1; y = 1 }) 1 ≡ 0)
+unfolding cutCallRefusal pictureRefusal kindRefusal sidesRefusal bufferRefusal noCubemapRefusal cutRefusal cutTaken _orElse_ facesOf
+cut-order = (refl, refl, refl, refl, refl)
+
+-- ---- what calls leave and hand out
+
+-- a refusal changes no buffer: two entries are too few for the chain of 2 by 1
+refused-unchanged : chainLeaves linear 2 1 (1 ∷ 2 ∷ []) ≡ 1 ∷ 2 ∷ []
+unfolding chainLeaves answer chainRefusal pictureRefusal kindRefusal sidesRefusal bufferRefusal _orElse_ filledOf filled chain facesOf count start sizeAt sideAt top log2 halvings
+refused-unchanged = refl
+
+-- a view of a cubemap's level is one face of it
+fifth-face : viewAnswer cubemap 1 1 (1 ∷ 2 ∷ 3 ∷ 4 ∷ 5 ∷ 6 ∷ []) 0 4 ≡ 5 ∷ []
+unfolding viewAnswer answer viewRefusal chainRefusal pictureRefusal kindRefusal sidesRefusal bufferRefusal faceRefusal levelRefusal _orElse_ faceView faceStart facesOf count start sizeAt sideAt top log2 halvings
+fifth-face = refl
+
+-- a cut is written to the front of the target
+cut-written : cutLeaves linear 2 1 (5 ∷ 6 ∷ []) 0 (record { x = 1; y = 0 }) (record { x = 1; y = 1 }) (8 ∷ 9 ∷ []) ≡ 6 ∷ 9 ∷ []
+unfolding cutLeaves answer cutCallRefusal pictureRefusal kindRefusal sidesRefusal bufferRefusal noCubemapRefusal cutRefusal cutTaken _orElse_ facesOf cut grid tab texel
+cut-written = refl
+
+-- ---- slips that look right
+
+-- the pack truncates: bytes 0 and 255 give 7F, and not 80
+truncated : meanByte 0 255 0 255 ≡ 0x7F
+unfolding meanByte add mul div ofBits ofInt toUnsigned
+truncated = refl
+
+-- byte 1 survives a plain mean; as a normal it does not
+byte-one : (meanByte 1 1 1 1 ≡ 1) × (reduceOf normal 0x01FF80FF 0x01FF80FF 0x01FF80FF 0x01FF80FF ≡ 0x00FF80FF)
+unfolding meanByte reduceOf normalOf normalByte eachOf rgba add sub mul div ofBits ofInt toUnsigned
+byte-one = (refl, refl)
+
+-- t = 5 mirrored into a side of 4 is 3, and not 2
+mirrored-five : mirroredOf (pos 5) 4 ≡ 3
+unfolding mirroredOf remainderOf
+mirrored-five = refl
+
+-- X wins a tie against Y
+tie-to-x : spotOf one32 one32 zero32 .face ≡ 0
+unfolding spotOf spotAt oddOf signOf magnitude neg add mul div le lt ofBits
+tie-to-x = refl

@@ -1,0 +1,105 @@
+/* Links the archive by its header and calls every name in it: document 01's reference items, a refusal of each call, and that a
+ * refusal writes nothing. Prints how many checks held; answers 1 at the first that does not. */
+#include <math.h>
+#include <stdint.h>
+#include <stdio.h>
+#include <stdlib.h>
+#include <string.h>
+
+#include "swathecold.h"
+
+enum { SRGB, NORMAL, METALLIC_ROUGHNESS, CUBEMAP, LINEAR };
+enum { NOT_GIVEN = 0, REPEAT = 10497, CLAMP = 33071, MIRRORED = 33648 };
+#define CANARY 0xC0FFEE11u
+#define LEN(a) (sizeof(a) / sizeof *(a))
+
+static int checks;
+
+static void expect(int holds, const char *what) {
+    if (!holds) {
+        printf("C boundary: not so: %s\n", what);
+        exit(1);
+    }
+    checks++;
+}
+
+static void sizes_and_chain(void) {
+    uint64_t s[4] = {7, 7, 7, 7}, written = 7;
+    expect(swathecold_level_sizes(LINEAR, 5, 3, 1, s) == 0 && s[0] == 15 && s[1] == 2 && s[2] == 1 && s[3] == 18, "5 by 3: level 1 is 2x1 at 15 of 18");
+    expect(swathecold_level_sizes(LINEAR, 4097, 1, 0, s) == 2 && s[0] == 15, "4097: refusal 2, nothing written");
+    expect(swathecold_level_sizes(CUBEMAP, 2, 2, 1, s) == 0 && s[0] == 24 && s[3] == 30, "a cubemap 2 by 2: level 1 at 24 of 30");
+    uint32_t linear[] = {0x00FF00FF, 0xFF0000FF, CANARY, CANARY};
+    expect(swathecold_generate_mipmaps(LINEAR, 2, 1, linear, LEN(linear), &written) == 0 && written == 3 && linear[2] == 0x7F7F00FF && linear[3] == CANARY, "Linear 00FF00FF, FF0000FF: 7F7F00FF");
+    uint32_t rough[] = {0x11FF0022, 0x3300FF44, CANARY};
+    expect(swathecold_generate_mipmaps(METALLIC_ROUGHNESS, 2, 1, rough, 3, &written) == 0 && rough[2] == 0x11B47F22, "MetallicRoughness: 11B47F22");
+    uint32_t srgb[] = {0xFF0000FF, 0x000000FF, CANARY};
+    expect(swathecold_generate_mipmaps(SRGB, 2, 1, srgb, 3, &written) == 0 && srgb[2] == 0xBB0000FF, "SRGB: BB0000FF");
+    uint32_t normal[] = {0x01FF80FF, 0x01FF80FF, CANARY};
+    written = 7;
+    expect(swathecold_generate_mipmaps(NORMAL, 2, 1, normal, 2, &written) == 3 && written == 7 && normal[2] == CANARY, "one short: refusal 3, nothing written");
+    expect(swathecold_generate_mipmaps(NORMAL, 2, 1, normal, 3, &written) == 0 && normal[2] == 0x00FF80FF, "Normal 01FF80FF twice: 00FF80FF");
+}
+
+static void parts(void) {
+    uint64_t part[2] = {7, 7}, written = 7;
+    uint32_t texels[18], target[3] = {CANARY, CANARY, CANARY};
+    for (uint32_t i = 0; i < 18; i++) texels[i] = i;
+    expect(swathecold_level_view(LINEAR, 5, 3, texels, 18, 1, 0, part) == 0 && part[0] == 15 && part[1] == 2, "level 1 stands at 15, 2 texels");
+    expect(swathecold_level_view(LINEAR, 5, 3, texels, 18, 3, 0, part) == 6 && part[0] == 15, "level 3: refusal 6");
+    expect(swathecold_cut(LINEAR, 5, 3, texels, 18, 1, 2, 0, 2, 2, target, 3, &written) == 3 && target[0] == CANARY && written == 7, "a target one short: refusal 3");
+    expect(swathecold_cut(LINEAR, 5, 3, texels, 18, 0, 3, 1, 2, 1, target, 3, &written) == 0 && written == 2 && target[0] == 8 && target[1] == 9 && target[2] == CANARY, "the cut at (3, 1)");
+    expect(swathecold_cut(LINEAR, 5, 3, texels, 18, 1, 3, 0, 2, 2, target, 3, &written) == 11, "a corner that is no multiple of 2: refusal 11");
+    uint8_t cross[4 * 3 * 4];
+    uint32_t faces[7] = {0, 0, 0, 0, 0, 0, CANARY};
+    for (size_t i = 0; i < LEN(cross); i++) cross[i] = (uint8_t)(i / 4);
+    expect(swathecold_cut_cross(4, 3, cross, LEN(cross), faces, 7, &written) == 0 && written == 6 && faces[0] == 0x06060606 && faces[1] == 0x04040404 && faces[2] == 0x01010101 && faces[3] == 0x09090909 && faces[4] == 0x05050505 && faces[5] == 0x07070707 && faces[6] == CANARY, "the cross's six faces");
+    expect(swathecold_cut_cross(3, 3, cross, LEN(cross), faces, 7, &written) == 10, "a cross 3 wide: refusal 10");
+}
+
+static void flat_lookups(void) {
+    const float sixteenth[4] = {1 / 16.0f, 0, 0, 1 / 16.0f}, still[4] = {0, 0, 0, 0}, lost[4] = {0, NAN, 0, 0};
+    const float u[4] = {-0.125f, 0.125f, 0.375f, 1.125f}, v[4] = {0, 0, 0, 0}, far[4] = {0, 0, 0, 2049.0f};
+    const uint32_t faces[4] = {0, 0, 0, 0}, wrong[4] = {0, 0, 1, 0};
+    uint32_t level = 7, texels[] = {0x00000000, 0x33000011, 0x66000022, 0xFF0000FF, CANARY, CANARY, CANARY};
+    float rgb[12], alpha[4];
+    uint64_t written;
+    expect(swathecold_compute_mip_level(64, 64, sixteenth, &level) == 0 && level == 2, "64 by 64, steps of 1/16: level 2");
+    expect(swathecold_compute_mip_level(64, 64, lost, &level) == 5 && level == 2, "a step that is no number: refusal 5");
+    expect(swathecold_generate_mipmaps(LINEAR, 4, 1, texels, 7, &written) == 0 && written == 7, "a chain of 7");
+    expect(swathecold_sample4_rgb(LINEAR, 4, 1, texels, 7, REPEAT, CLAMP, u, v, still, rgb) == 0 && rgb[0] == 1.0f && rgb[1] == 0.0f && rgb[2] == 0.2f && rgb[3] == 0.0f, "Repeat: texels 3, 0, 1, 0");
+    expect(swathecold_sample4_alpha(LINEAR, 4, 1, texels, 7, CLAMP, NOT_GIVEN, u, v, still, alpha) == 0 && alpha[0] == 0.0f && alpha[3] == 1.0f, "Clamp: texels 0 and 3 at the ends");
+    memset(rgb, 0, sizeof rgb);
+    expect(swathecold_sample4_rgb(LINEAR, 4, 1, texels, 7, 1, CLAMP, u, v, still, rgb) == 4 && rgb[0] == 0.0f, "code 1: refusal 4");
+    expect(swathecold_sample4_rgb(LINEAR, 4, 1, texels, 7, MIRRORED, CLAMP, u, far, still, rgb) == 5, "2049: refusal 5");
+    expect(swathecold_sample_bilinear_rgb(LINEAR, 4, 1, texels, 7, CLAMP, CLAMP, u, v, 0, faces, rgb) == 0 && rgb[1] == 0.0f, "bilinear at a texel's middle");
+    expect(swathecold_sample_bilinear_rgb(LINEAR, 4, 1, texels, 7, CLAMP, CLAMP, u, v, 0, wrong, rgb) == 8, "a face of a picture that has none: refusal 8");
+    expect(swathecold_sample_bilinear_alpha(LINEAR, 4, 1, texels, 7, CLAMP, CLAMP, u, v, 3, alpha) == 6, "level 3 of a picture 4 wide: refusal 6");
+    expect(swathecold_sample_bilinear_alpha(LINEAR, 4, 1, texels, 7, CLAMP, CLAMP, u, v, 0, alpha) == 0 && alpha[3] == 1.0f, "bilinear alpha at the last texel");
+}
+
+static void cubemaps(void) {
+    const float x[4] = {1, 0, -0.0f, 1}, y[4] = {1, 2, 0, 1}, z[4] = {1, 1, -1, 1}, none[4] = {1, 0, 0, 0};
+    const uint32_t tops[4] = {0, 9, 0, 0};
+    const float levels[4] = {0, 0.5f, -3, 9}, endless[4] = {0, INFINITY, 0, 0};
+    uint32_t faces[4] = {7, 7, 7, 7}, texels[30];
+    float uv[8], rgb[12];
+    uint64_t written;
+    for (uint32_t i = 0; i < 30; i++) texels[i] = (i / 4 * 51) << 24;
+    expect(swathecold_cubemap_uv_from_normal(x, y, z, uv, faces) == 0 && faces[0] == 0 && uv[0] == 0.0f && uv[4] == 0.0f, "(1,1,1): face 0, (0, 0)");
+    expect(faces[1] == 2 && uv[1] == 0.5f && uv[5] == 0.75f && faces[2] == 5 && uv[2] == 0.5f && uv[6] == 0.5f, "(0,2,1): face 2; (-0,0,-1): face 5");
+    expect(swathecold_cubemap_uv_from_normal(none, none + 0, none, uv, faces) == 7 && faces[0] == 0, "(0,0,0): refusal 7");
+    expect(swathecold_generate_mipmaps(CUBEMAP, 2, 2, texels, 30, &written) == 0 && written == 30, "a cubemap's chain of 30");
+    expect(swathecold_sample_cubemap_rgb(CUBEMAP, 2, 2, texels, 30, x, y, z, tops, rgb) == 0 && rgb[0] == 0.0f && rgb[1] == 0.4f && rgb[2] == 1.0f, "each face has its own colour");
+    expect(swathecold_sample_cubemap_rgb(LINEAR, 2, 2, texels, 30, x, y, z, tops, rgb) == 8, "a picture that is no cubemap: refusal 8");
+    expect(swathecold_sample_cubemap_trilinear_rgb(CUBEMAP, 2, 2, texels, 30, x, y, z, levels, rgb) == 0 && rgb[2] == 1.0f && rgb[1] == 0.4f, "between two levels of one colour");
+    expect(swathecold_sample_cubemap_trilinear_rgb(CUBEMAP, 2, 2, texels, 30, x, y, z, endless, rgb) == 5, "an endless level: refusal 5");
+}
+
+int main(void) {
+    sizes_and_chain();
+    parts();
+    flat_lookups();
+    cubemaps();
+    printf("C boundary: %d checks hold\n", checks);
+    return 0;
+}
