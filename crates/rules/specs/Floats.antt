@@ -1,10 +1,10 @@
 -- The f32 numbers that document 01 names, and a texel's bytes as f32 and back. Each operation is an f32 operation rounded once.
 -- Definitions only.
 use Prim.Native.Nat.{ℕ}
-use mathlib.Core.Bool.{true, cond}
+use mathlib.Core.Bool.{cond}
 use lib.Dec.{T}
-use lib.IntN.{pos, negsuc}
-use lib.Ieee.{Float, fin, binary32, neg, add, sub, mul, div, le, lt, ofInt, ofBits, toUnsigned}
+use lib.IntN.{pos}
+use lib.Ieee.{Float, binary32, neg, add, sub, mul, div, le, lt, ofInt, ofBits, toUnsigned}
 
 -- 0.0, 0.5, 1.0, -1.0, 2.0, 4.0 and 255.0, by their bit patterns
 abbrev pub zero32 : Float

@@ -24,7 +24,7 @@ unfoldable pub reaches : ℕ → ℕ → ℕ → ℕ → Bool
 unfolding units
 reaches p n d b = cond (eqb (b % 2) 0) (leb ((units (b - 1) + units b) ^ p * d) ((2 ^ 150) ^ p * n)) (ltb ((units (b - 1) + units b) ^ p * d) ((2 ^ 150) ^ p * n))
 
--- the greatest pattern that v reaches, by its binary digits from the k-th down: the nearest one (`nearest-found`)
+-- the greatest pattern that v reaches, by its binary digits from the k-th down: the nearest one (`nearest-found` of texel)
 unfoldable pub found : ℕ → ℕ → ℕ → ℕ → ℕ → ℕ
 unfolding reaches
 found p n d zero b = b

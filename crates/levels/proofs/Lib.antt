@@ -1,0 +1,5 @@
+pub mod Starts
+pub mod Viewing
+pub mod Rows
+pub mod Cuts
+pub mod Crosses

@@ -1,0 +1,7 @@
+// Levels of a picture that lies in a lent buffer: their sizes, the chain, the view, the cut and the cross.
+pub mod chain;
+pub mod cross;
+pub mod cut;
+pub mod refusals;
+pub mod sizes;
+pub mod view;

@@ -1,0 +1,234 @@
+-- The greatest power of 4 up to a footprint, in the paper's words, and as half of the footprint's exponent: 4^j is at most f
+-- exactly where 2j is at most the exponent that f's bit pattern holds, since both say 2^(2j + 149) ≤ f in units of 2^-149.
+-- Assumes nothing.
+use mathlib.Core.Path.{_≡_, refl, sym, ap, _∙_, subst, subst₂}
+use mathlib.Core.Logic.{_⊎_, inl, inr}
+use mathlib.Core.Bool.{Bool, true, false, not, cond, _&&_, _||_}
+use Prim.Native.Nat.{ℕ, zero, suc, _+_, _-_, _*_, _/_, _^_, _≤_, _<_, min, max}
+use native.Mathlib.Nat.{le-trans, le-of-lt, le-of-eq, lt-of-lt-of-le, lt-of-le-of-lt, lt-of-not-le, lt-irrefl, zero-lt-suc, mul-pos, mul-one, mul-right-comm, mul-le-mul-right, le-of-mul-le-mul-right, le-of-suc-le-suc, le-suc, eq-or-lt-of-le, pow-suc, pow-le-pow-right, le-div-iff-mul-le, div-lt-iff-lt-mul}
+use native.Mathlib.Omega.{arith}
+use lib.IntN.{ℤ, pos}
+use lib.Dec.{T, leb, ltb, eqb, leb→le, le→leb, ltb→lt, eqb→eq, lit≤}
+use lib.Pow.{pow-pos, pow-mono, pow-add}
+use lib.Ieee.{Float, nan, inf, fin, binary32, up, down, lt, eq, le, ofInt, ofBits, toBits, isNan, size}
+use lib.Ieee.Fits.{down-pos, and-l, and-r}
+use lib.Ieee.Exact.{HasValue}
+use lib.Ieee.Back.{round-whole}
+use lib.Ieee.Order.{le-of-values}
+use lib.Ieee.Digits.{size-lt, size-reaches}
+use borrow.Author.Tests.{le-leb, leb-true, leb-false}
+use Rattle.rules.specs.Floats.{float, four32}
+use Rattle.rules.specs.Footprint.{fourOf}
+use Rattle.rules.specs.Sizes.{log2, top}
+use Rattle.rules.proofs.Sides.{log2-bounds, exp-le}
+use Rattle.places.proofs.Magnitudes.{same-test}
+
+or-split : (a b : Bool) → T (a || b) → T a ⊎ T b
+or-split true b t = inl tt
+or-split false b t = inr t
+
+-- ---- a whole number a beside a float
+whole : (a : ℕ) → a ≤ 16777216 → HasValue (float a) false a 1
+unfolding ofInt
+whole a h = round-whole binary32 false a h
+
+-- beside m * 2^e the test is one of whole numbers
+whole-le : (a : ℕ) (x : Float) (m : ℕ) (e : ℤ) → HasValue x false a 1 → le x (fin false m e) ≡ leb (a * down e) (m * up e)
+whole-le a nan m e v = absurd v
+whole-le a (inf s) m e v = absurd v
+whole-le a (fin true k d) m e v = absurd (subst T (v .0) tt)
+whole-le a (fin false k d) m e v =
+    same-test (le (fin false k d) (fin false m e)) (leb (a * down e) (m * up e))
+    (λ t. le→leb (a * down e) (m * up e) (cross (k * up d) (down d) a (m * up e) (down e) (down-pos d) (v .1) (split (k * up d * down e) (m * up e * down d) (unfold le lt eq in t))))
+    (λ t. le-of-values (fin false k d) (fin false m e) a 1 (m * up e) (down e) (zero-lt-suc 0) (down-pos e) v (refl, refl) (subst (λ (z : ℕ). a * down e ≤ z) (sym (mul-one (m * up e))) (leb→le (a * down e) (m * up e) t)))
+  where
+    split : (a b : ℕ) → T (ltb a b || (eqb a b && true)) → a ≤ b
+    split a b t = elim (or-split (ltb a b) (eqb a b && true) t) [ inl u ↦ le-of-lt (ltb→lt a b u) | inr u ↦ le-of-eq (eqb→eq a b (and-l (eqb a b) true u)) ]
+
+    cross : (K D a A E : ℕ) → 0 < D → K * 1 ≡ a * D → K * E ≤ A * D → a * E ≤ A
+    cross K D a A E h v l =
+        le-of-mul-le-mul-right
+        (subst (λ (z : ℕ). z ≤ A * D) (ap (λ (z : ℕ). z * E) (sym (mul-one K) ∙ v) ∙ mul-right-comm a D E) l)
+        h
+
+-- a number from 1 up is not at most a negative one
+not-below : (a k : ℕ) (d : ℤ) (m : ℕ) (e : ℤ) → 0 < a → k * up d * 1 ≡ a * down d → T (le (fin false k d) (fin true m e)) → ⊥
+unfolding le lt eq
+not-below a k d m e h v t =
+    let z = eqb→eq (k * up d * down e) 0 (and-r (eqb (k * up d * down e) (m * up e * down d)) (eqb (k * up d * down e) 0) t) in
+    let p : 0 < k * up d * 1 = subst (λ (n : ℕ). 0 < n) (sym v) (mul-pos h (down-pos d)) in
+    let q : 0 < k * up d = subst (λ (n : ℕ). 0 < n) (mul-one (k * up d)) p in
+    lt-irrefl 0 (subst (λ (n : ℕ). 0 < n) z (mul-pos q (down-pos e)))
+
+-- what is at least a whole number is at least a smaller one
+pub at-least : (a b : ℕ) (x y f : Float) → 0 < b → b ≤ a → HasValue x false a 1 → HasValue y false b 1 → T (le x f) → T (le y f)
+at-least a b nan y f h l v w t = absurd v
+at-least a b (inf s) y f h l v w t = absurd v
+at-least a b (fin true k d) y f h l v w t = absurd (subst T (v .0) tt)
+at-least a b (fin false k d) nan f h l v w t = absurd w
+at-least a b (fin false k d) (inf s) f h l v w t = absurd w
+at-least a b (fin false k d) (fin true n c) f h l v w t = absurd (subst T (w .0) tt)
+at-least a b (fin false k d) (fin false n c) nan h l v w t = unfold le lt eq in t
+at-least a b (fin false k d) (fin false n c) (inf true) h l v w t = unfold le lt eq in t
+at-least a b (fin false k d) (fin false n c) (inf false) h l v w t = unfold le lt eq in tt
+at-least a b (fin false k d) (fin false n c) (fin true m e) h l v w t = absurd (not-below a k d m e (lt-of-lt-of-le h l) (v .1) t)
+at-least a b (fin false k d) (fin false n c) (fin false m e) h l v w t =
+    let A = leb→le (a * down e) (m * up e) (subst T (whole-le a (fin false k d) m e v) t) in
+    subst T (sym (whole-le b (fin false n c) m e w)) (le→leb (b * down e) (m * up e) (le-trans (mul-le-mul-right (down e) l) A))
+
+-- ---- powers of 4
+four-two : (j : ℕ) → 4 ^ j ≡ 2 ^ (2 * j)
+four-two zero = refl
+four-two (suc j) = pow-suc 4 j ∙ ap (λ (z : ℕ). z * 4) (four-two j) ∙ sym (pow-add 2 (2 * j) 2) ∙ ap (λ (z : ℕ). 2 ^ z) (two j)
+  where
+    two : (j : ℕ) → 2 * j + 2 ≡ 2 * suc j
+    two j = omega arith
+
+four-le : (i j : ℕ) → i ≤ j → 4 ^ i ≤ 4 ^ j
+four-le i j h = pow-le-pow-right {n = 4} (zero-lt-suc 3) h
+
+power : (j : ℕ) → j ≤ 12 → HasValue (float (4 ^ j)) false (4 ^ j) 1
+power j h = whole (4 ^ j) (four-le j 12 h)
+
+-- ---- the exponent: n has s binary digits, and s - 23 stands in the pattern above the 23 digits below the leading one
+reaches : (i n : ℕ) → leb (2 ^ i) n ≡ leb (suc i) (size n)
+reaches i n =
+    same-test (leb (2 ^ i) n) (leb (suc i) (size n))
+    (λ t. le→leb (suc i) (size n) (lt-of-not-le (λ h. lt-irrefl n (lt-of-lt-of-le (size-lt n) (le-trans (pow-mono h) (leb→le (2 ^ i) n t))))))
+    (λ t. le→leb (2 ^ i) n (size-reaches n i (leb→le (suc i) (size n) t)))
+
+field : (n : ℕ) → 8388608 ≤ n → (0 + (size n - 24) * 8388608 + n / 2 ^ (size n - 24)) / 8388608 + 23 ≡ size n
+field n h =
+    go (size n) (leb→le 24 (size n) (subst T (reaches 23 n) (le→leb 8388608 n h))) (size-lt n) (size-reaches n (size n - 1))
+  where
+    go : (s : ℕ) → 24 ≤ s → n < 2 ^ s → (s - 1 < s → 2 ^ (s - 1) ≤ n) → (0 + (s - 24) * 8388608 + n / 2 ^ (s - 24)) / 8388608 + 23 ≡ s
+    go s l u r =
+        let a : 2 ^ s ≡ 16777216 * 2 ^ (s - 24) = ap (λ (z : ℕ). 2 ^ z) (split s 24 l) ∙ pow-add 2 24 (s - 24) in
+        let b : 2 ^ (s - 1) ≡ 8388608 * 2 ^ (s - 24) = ap (λ (z : ℕ). 2 ^ z) (less s l) ∙ pow-add 2 23 (s - 24) in
+        let most : n / 2 ^ (s - 24) < 16777216 = div-lt-iff-lt-mul (pow-pos (s - 24)) .1 (subst (λ (z : ℕ). n < z) a u) in
+        let least : 8388608 ≤ n / 2 ^ (s - 24) = le-div-iff-mul-le (pow-pos (s - 24)) .1 (subst (λ (z : ℕ). z ≤ n) b (r (omega arith))) in
+        sum (s - 24) (n / 2 ^ (s - 24)) least most (omega arith)
+      where
+        split : (s k : ℕ) → k ≤ s → s ≡ k + (s - k)
+        split s k h = omega arith
+
+        less : (s : ℕ) → 24 ≤ s → s - 1 ≡ 23 + (s - 24)
+        less s h = omega arith
+
+        sum : (k q : ℕ) → 8388608 ≤ q → q < 16777216 → k + 24 ≡ s → (0 + k * 8388608 + q) / 8388608 + 23 ≡ s
+        sum k q h l e = omega arith
+
+-- f in units of 2^-149, beside 2^(i + 149)
+units : (i A D : ℕ) → 0 < D → leb (2 ^ i * D) A ≡ leb (2 ^ (i + 149)) (A * 2 ^ 149 / D)
+units i A D h =
+    same-test (leb (2 ^ i * D) A) (leb (2 ^ (i + 149)) (A * 2 ^ 149 / D))
+    (λ t. le→leb (2 ^ (i + 149)) (A * 2 ^ 149 / D) (le-div-iff-mul-le h .1 (subst (λ (z : ℕ). z ≤ A * 2 ^ 149) (move i D) (mul-le-mul-right (2 ^ 149) (leb→le (2 ^ i * D) A t)))))
+    (λ t. le→leb (2 ^ i * D) A (le-of-mul-le-mul-right (subst (λ (z : ℕ). z ≤ A * 2 ^ 149) (sym (move i D)) (le-div-iff-mul-le h .0 (leb→le (2 ^ (i + 149)) (A * 2 ^ 149 / D) t))) (pow-pos 149)))
+  where
+    move : (i D : ℕ) → 2 ^ i * D * 2 ^ 149 ≡ 2 ^ (i + 149) * D
+    move i D = mul-right-comm (2 ^ i) D (2 ^ 149) ∙ ap (λ (z : ℕ). z * D) (sym (pow-add 2 i 149))
+
+-- what the pattern of an f from 4 up says of the powers of 4
+pub record Exponent (f : Float) (x : ℕ) : Type 0 where
+  pub least : 127 ≤ x
+  pub test : (j : ℕ) → j ≤ 12 → le (float (4 ^ j)) f ≡ leb (2 * j + 127) x
+
+by-size : (n x : ℕ) → x + 23 ≡ size n → T (leb (2 ^ 151) n) → 127 ≤ x
+by-size n x e t = let l = leb→le 152 (size n) (subst T (reaches 151 n) t) in omega arith
+
+by-digits : (i n x : ℕ) → x + 23 ≡ size n → leb (2 ^ (i + 149)) n ≡ leb (i + 127) x
+by-digits i n x e =
+    reaches (i + 149) n
+    ∙ same-test (leb (suc (i + 149)) (size n)) (leb (i + 127) x)
+    (λ t. le→leb (i + 127) x (let l = leb→le (suc (i + 149)) (size n) t in omega arith))
+    (λ t. le→leb (suc (i + 149)) (size n) (let l = leb→le (i + 127) x t in omega arith))
+
+exponent-fin : (m : ℕ) (e : ℤ) → T (le four32 (fin false m e)) → Exponent (fin false m e) (toBits binary32 (fin false m e) / 8388608)
+unfolding toBits ofBits
+exponent-fin m e t =
+    let n = m * up e * 2 ^ 149 / down e in
+    let x = (0 + (size n - 24) * 8388608 + n / 2 ^ (size n - 24)) / 8388608 in
+    let big : T (leb (2 ^ 151) n) = subst T (whole-le 4 (fin false 1 (pos 2)) m e (refl, refl) ∙ units 2 (m * up e) (down e) (down-pos e)) t in
+    let s : x + 23 ≡ size n = field n (le-trans (pow-mono {i = 23} {j = 151} (lit≤ tt)) (leb→le (2 ^ 151) n big)) in
+    record {
+      least = by-size n x s big;
+      test = λ j h.
+          whole-le (4 ^ j) (float (4 ^ j)) m e (power j h)
+          ∙ ap (λ (z : ℕ). leb (z * down e) (m * up e)) (four-two j)
+          ∙ units (2 * j) (m * up e) (down e) (down-pos e)
+          ∙ by-digits (2 * j) n x s;
+    }
+
+below-inf : (a : ℕ) (x : Float) → HasValue x false a 1 → le x (inf false) ≡ true
+unfolding le lt eq
+below-inf a nan v = absurd v
+below-inf a (inf s) v = absurd v
+below-inf a (fin s k d) v = refl
+
+pub exponent : (f : Float) → T (le four32 f) → Exponent f (toBits binary32 f / 8388608)
+exponent nan t = absurd (unfold le lt eq ofBits in t)
+exponent (inf true) t = absurd (unfold le lt eq ofBits in t)
+exponent (inf false) t = unfold toBits in record { least = lit≤ tt; test = λ j h. below-inf (4 ^ j) (float (4 ^ j)) (power j h) ∙ sym (all j h) }
+  where
+    all : (j : ℕ) → j ≤ 12 → leb (2 * j + 127) 255 ≡ true
+    all j h = le-leb (2 * j + 127) 255 (omega arith)
+exponent (fin true m e) t = absurd (not-below 4 1 (pos 2) m e (zero-lt-suc 3) refl (unfold ofBits in t))
+exponent (fin false m e) t = exponent-fin m e t
+
+pub no-nan : (f : Float) → T (le four32 f) → T (not (isNan f))
+unfolding isNan
+no-nan nan t = absurd (unfold le lt eq ofBits in t)
+no-nan (inf s) t = tt
+no-nan (fin s m e) t = tt
+
+-- half of the exponent, lowered to n
+pub four-half : (n : ℕ) (f : Float) (x : ℕ) → n ≤ 12 → Exponent f x → min ((x - 127) / 2) n ≡ fourOf n f
+unfolding fourOf
+four-half zero f x h k = omega arith
+four-half (suc n) f x h k =
+    go (leb (2 * suc n + 127) x) refl (four-half n f x (le-trans (le-suc n) h) k)
+    ∙ sym (ap (λ (b : Bool). cond b (suc n) (fourOf n f)) (k .test (suc n) h))
+  where
+    go : (b : Bool) → leb (2 * suc n + 127) x ≡ b → min ((x - 127) / 2) n ≡ fourOf n f → min ((x - 127) / 2) (suc n) ≡ cond b (suc n) (fourOf n f)
+    go true e r = let l = leb-true (2 * suc n + 127) x e in omega arith
+    go false e r = let l = leb-false (2 * suc n + 127) x e in let b = k .least in rw (← r) (omega arith)
+
+-- below 4 the level is 0
+pub four-none : (n : ℕ) (f : Float) → n ≤ 12 → le four32 f ≡ false → fourOf n f ≡ 0
+unfolding fourOf
+four-none zero f h e = refl
+four-none (suc n) f h e = ap (λ (b : Bool). cond b (suc n) (fourOf n f)) (no e) ∙ four-none n f (le-trans (le-suc n) h) e
+  where
+    no : le four32 f ≡ false → le (float (4 ^ suc n)) f ≡ false
+    no e = same-test (le (float (4 ^ suc n)) f) false (λ t. subst T e (at-least (4 ^ suc n) 4 (float (4 ^ suc n)) four32 f (zero-lt-suc 3) (four-le 1 (suc n) (omega arith)) (power (suc n) h) (unfold ofBits in (refl, refl)) t)) (λ t. absurd t)
+
+-- ---- the rule in the paper's words: the level's power is at most the footprint, and no level with that is greater
+pub four-fits : (n : ℕ) (f : Float) → (fourOf n f ≡ 0) ⊎ T (le (float (4 ^ fourOf n f)) f)
+unfolding fourOf
+four-fits zero f = inl refl
+four-fits (suc n) f = go (four-fits n f) (le (float (4 ^ suc n)) f) refl
+  where
+    go : (fourOf n f ≡ 0) ⊎ T (le (float (4 ^ fourOf n f)) f) → (b : Bool) → le (float (4 ^ suc n)) f ≡ b
+        → (cond b (suc n) (fourOf n f) ≡ 0) ⊎ T (le (float (4 ^ cond b (suc n) (fourOf n f))) f)
+    go r true e = inr (subst T (sym e) tt)
+    go r false e = r
+
+pub four-most : (n j : ℕ) (f : Float) → j ≤ n → T (le (float (4 ^ j)) f) → j ≤ fourOf n f
+unfolding fourOf
+four-most zero j f h t = h
+four-most (suc n) j f h t = go (λ l. four-most n j f (le-of-suc-le-suc l) t) (le (float (4 ^ suc n)) f) refl
+  where
+    go : (j < suc n → j ≤ fourOf n f) → (b : Bool) → le (float (4 ^ suc n)) f ≡ b → j ≤ cond b (suc n) (fourOf n f)
+    go r true e = h
+    go r false e = elim (eq-or-lt-of-le h) [ inl i ↦ absurd (subst T (ap (λ (z : ℕ). le (float (4 ^ z)) f) i ∙ e) t) | inr l ↦ r l ]
+
+-- an infinite footprint gives the top level
+pub four-infinite : (n : ℕ) → n ≤ 12 → fourOf n (inf false) ≡ n
+unfolding fourOf
+four-infinite zero h = refl
+four-infinite (suc n) h = ap (λ (b : Bool). cond b (suc n) (fourOf n (inf false))) (below-inf (4 ^ suc n) (float (4 ^ suc n)) (power (suc n) h))
+
+-- the top level of a picture is at most 12
+pub top-most : (w h : ℕ) → 0 < w → w ≤ 4096 → h ≤ 4096 → top w h ≤ 12
+unfolding top
+top-most w h a b c = exp-le (log2 (max w h)) 12 (lt-of-le-of-lt (log2-bounds (max w h) (omega arith) .0) (omega arith))

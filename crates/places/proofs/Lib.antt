@@ -1,0 +1,11 @@
+pub mod Rests
+pub mod Lifts
+pub mod Finites
+pub mod Magnitudes
+pub mod Fours
+pub mod Coordinates
+pub mod Spans
+pub mod Pairs
+pub mod Taken
+pub mod Spots
+pub mod Weighing

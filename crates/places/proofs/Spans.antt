@@ -1,0 +1,211 @@
+-- The texel numbers of a coordinate. With n = 2048 * width, u * width lies in -n to n and u * width - 0.5 in -n - 1 to n, since
+-- these ends are floats as they are; so a floor t of them has |t| and |t + 1| up to n + 1, and the wrap takes both.
+-- Assumes nothing.
+use mathlib.Core.Path.{_≡_, refl, sym, ap, _∙_, subst}
+use mathlib.Core.Bool.{Bool, true, false, cond, _&&_}
+use Prim.Native.Nat.{ℕ, zero, suc, _+_, _-_, _*_, _/_, _^_, _≤_, _<_, max}
+use native.Mathlib.Nat.{le-trans, le-of-eq, le-of-suc-le-suc, zero-lt-suc, mul-one, one-mul, mul-pos, mul-assoc, mul-right-comm, add-mul, mul-le-mul-right, le-of-mul-le-mul-right, div-lt-iff-lt-mul}
+use native.Mathlib.Omega.{arith}
+use lib.IntN.{ℤ, pos, negsuc, negℤ, natAbs, sucℤ, _+ℤ_, +ℤ-one}
+use lib.Signed.{mag}
+use lib.Dec.{T, le→leb, lt→ltb}
+use lib.Ieee.{Float, nan, inf, fin, binary32, up, down, unlike, round, sum, neg, add, sub, mul, le, ofInt, ofBits, inFloat}
+use lib.Ieee.Fits.{down-pos}
+use lib.Ieee.Exact.{HasValue}
+use lib.Ieee.Back.{round-whole}
+use lib.Ieee.Scale.{finite, round-same}
+use lib.Ieee.Positive.{positive, positive-of-value}
+use borrow.Author.Tests.{le-ltb}
+use Rattle.rules.specs.Floats.{Between, zero32, half32, one32, float}
+use Rattle.rules.specs.Whole.{floorOf}
+use Rattle.rules.specs.Refusals.{high11, coordinateTaken}
+use Rattle.rules.specs.Places.{nearestOf}
+use Rattle.rules.specs.Wrapping.{wrapOf}
+use Rattle.rules.specs.Bilinear.{spanOf, axisOf}
+use Rattle.rules.specs.declared.Mode.{Mode}
+use Rattle.rules.specs.declared.Axis.{Axis}
+use Rattle.texel.specs.Ends.{low23, high23}
+use Rattle.texel.proofs.Range.{le→, Between-finite, in-mul-by, in-sub, le-trans-finite}
+use Rattle.texel.proofs.Unit.{ends}
+use Rattle.texel.proofs.Coord.{coord-in}
+use Rattle.texel.proofs.Fraction.{fraction-in}
+use Rattle.places.proofs.Rests.{suc-mul}
+use Rattle.places.proofs.Coordinates.{low11, taken-in}
+
+-- ---- the floor of a value between two whole ends
+pub record Floored (t : ℤ) (a b : ℕ) : Type 0 where
+  pub near : natAbs t ≤ max a b
+  pub next : natAbs (t +ℤ pos 1) ≤ max a (b + 1)
+
+below : (n a b : ℕ) → n ≤ a → Floored (negℤ (pos n)) a b
+below zero a b h = record { near = omega arith; next = omega arith }
+below (suc n) a b h = record { near = omega arith; next = rw (+ℤ-one (negsuc n)) (up n h) }
+  where
+    up : (n : ℕ) → suc n ≤ a → natAbs (sucℤ (negsuc n)) ≤ max a (b + 1)
+    up zero h = omega arith
+    up (suc n) h = omega arith
+
+-- A ≤ k * D: the quotient rounded up is at most k, and so is the quotient
+pub up-le : (A D k : ℕ) → 0 < D → A ≤ k * D → (A + (D - 1)) / D ≤ k
+up-le A D k h l = le-of-suc-le-suc (div-lt-iff-lt-mul h .1 (let e = suc-mul k D in omega arith))
+
+pub down-le : (A D k : ℕ) → 0 < D → A ≤ k * D → A / D ≤ k
+down-le A D k h l = le-of-suc-le-suc (div-lt-iff-lt-mul h .1 (let e = suc-mul k D in omega arith))
+
+-- a value K / d that is the whole number n
+cross : (A D K d n : ℕ) → 0 < d → K * 1 ≡ n * d → A * d ≤ K * D → A ≤ n * D
+cross A D K d n h v l =
+    le-of-mul-le-mul-right (le-trans l (le-of-eq (ap (λ (z : ℕ). z * D) (sym (mul-one K) ∙ v) ∙ mul-right-comm n d D))) h
+
+pub upper : (m : ℕ) (e : ℤ) (hi : Float) (b : ℕ) → HasValue hi false b 1 → T (le (fin false m e) hi) → m * up e ≤ b * down e
+upper m e nan b v h = absurd v
+upper m e (inf s) b v h = absurd v
+upper m e (fin true k d) b v h = absurd (subst T (v .0) tt)
+upper m e (fin false k d) b v h =
+    let l = le→ (fin false m e) (fin false k d) tt tt h in
+    cross (m * up e) (down e) (k * up d) (down d) b (down-pos d) (v .1) (omega arith)
+
+lower : (m : ℕ) (e : ℤ) (lo : Float) (a : ℕ) → HasValue lo true a 1 → T (le lo (fin true m e)) → m * up e ≤ a * down e
+lower m e nan a v h = absurd v
+lower m e (inf s) a v h = absurd v
+lower m e (fin false k d) a v h = absurd (subst T (sym (v .0)) tt)
+lower m e (fin true k d) a v h =
+    let l = le→ (fin true k d) (fin true m e) tt tt h in
+    cross (m * up e) (down e) (k * up d) (down d) a (down-pos d) (v .1) (omega arith)
+
+floored : (x lo hi : Float) (a b : ℕ) → T (finite x) → HasValue lo true a 1 → HasValue hi false b 1 → Between lo x hi → Floored (floorOf x) a b
+unfolding floorOf
+floored nan lo hi a b f v w r = absurd f
+floored (inf s) lo hi a b f v w r = absurd f
+floored (fin true m e) lo hi a b f v w r = below _ a b (up-le (m * up e) (down e) a (down-pos e) (lower m e lo a v (r .low)))
+floored (fin false m e) lo hi a b f v w r =
+    let l = down-le (m * up e) (down e) b (down-pos e) (upper m e hi b w (r .high)) in
+    record { near = omega arith; next = omega arith }
+
+-- ---- whole values: n times 2048, less 1, less 0
+pub value-finite : (x : Float) (s : Bool) (a c : ℕ) → HasValue x s a c → T (finite x)
+value-finite nan s a c v = v
+value-finite (inf t) s a c v = v
+value-finite (fin t m e) s a c v = tt
+
+as-whole : (s : Bool) (A D n : ℕ) → 0 < D → A ≡ n * D → n ≤ 16777216 → HasValue (round binary32 s A D) s n 1
+as-whole s A D n h e l =
+    subst (λ (x : Float). HasValue x s n 1) (sym (round-same binary32 s A D n 1 h (zero-lt-suc 0) (mul-one A ∙ e))) (round-whole binary32 s n l)
+
+unlike-false : (s : Bool) → unlike s false ≡ s
+unlike-false true = refl
+unlike-false false = refl
+
+times : (s : Bool) (y : Float) (w : ℕ) → HasValue y false w 1 → 2048 * w ≤ 16777216 → HasValue (mul binary32 (fin s 1 (pos 11)) y) s (2048 * w) 1
+unfolding mul
+times s nan w v h = absurd v
+times s (inf t) w v h = absurd v
+times s (fin true k d) w v h = absurd (subst T (v .0) tt)
+times s (fin false k d) w v h =
+    rw (unlike-false s) (as-whole s _ (1 * down d) (2048 * w) (mul-pos (zero-lt-suc 0) (down-pos d)) (scaled (k * up d) w (down d) (v .1)) h)
+  where
+    scaled : (K w D : ℕ) → K * 1 ≡ w * D → 2048 * K ≡ 2048 * w * (1 * D)
+    scaled K w D e = let a = mul-assoc 2048 w (1 * D) in omega arith
+
+less-one : (y : Float) (n : ℕ) → HasValue y true n 1 → n + 1 ≤ 16777216 → HasValue (sub binary32 y one32) true (n + 1) 1
+unfolding sub add sum neg ofBits
+less-one nan n v h = absurd v
+less-one (inf t) n v h = absurd v
+less-one (fin false k d) n v h = absurd (subst T (sym (v .0)) tt)
+less-one (fin true k d) n v h = as-whole true _ (down d * 1) (n + 1) (mul-pos (down-pos d) (zero-lt-suc 0)) (more (k * up d) n (down d) (v .1)) h
+  where
+    more : (K n D : ℕ) → K * 1 ≡ n * D → K * 1 + 1 * 1 * D ≡ (n + 1) * (D * 1)
+    more K n D e = let a = add-mul n 1 (D * 1) in let b = mul-assoc n D 1 in omega arith
+
+less-zero : (y : Float) (n : ℕ) → HasValue y false n 1 → n ≤ 16777216 → HasValue (sub binary32 y zero32) false n 1
+unfolding sub add sum neg ofBits
+less-zero nan n v h = absurd v
+less-zero (inf t) n v h = absurd v
+less-zero (fin true k d) n v h = absurd (subst T (v .0) tt)
+less-zero (fin false k d) n v h =
+    rw (le-ltb (k * up d * 1) (0 * 1 * down d) (omega arith))
+    (as-whole false _ (down d * 1) n (mul-pos (down-pos d) (zero-lt-suc 0)) (same (k * up d) n (down d) (v .1)) h)
+  where
+    same : (K n D : ℕ) → K * 1 ≡ n * D → K * 1 - 0 * 1 * D ≡ n * (D * 1)
+    same K n D e = let b = mul-assoc n D 1 in omega arith
+
+-- ---- a coordinate that is taken, along a side w
+half-in : Between zero32 half32 one32
+unfolding ofBits le
+half-in = record { low = tt; high = tt }
+
+half-self : Between half32 half32 half32
+unfolding ofBits le
+half-self = record { low = tt; high = tt }
+
+low-end : sub binary32 low23 half32 ≡ low23
+unfolding sub ofBits
+low-end = refl
+
+abbrev below23 : Float
+below23 = fin false 16777215 (negsuc 0)
+
+high-end : sub binary32 high23 half32 ≡ below23
+unfolding sub ofBits
+high-end = refl
+
+module _ (u : Float) (w : ℕ) (t : T (coordinateTaken u)) (a : 1 ≤ w) (b : w ≤ 4096) where
+  side : HasValue (float w) false w 1
+  unfolding ofInt
+  side = round-whole binary32 false w (omega arith)
+
+  lowest : HasValue (mul binary32 low11 (float w)) true (2048 * w) 1
+  lowest = times true (float w) w side (omega arith)
+
+  highest : HasValue (mul binary32 high11 (float w)) false (2048 * w) 1
+  highest = times false (float w) w side (omega arith)
+
+  product-in : Between (mul binary32 low11 (float w)) (mul binary32 u (float w)) (mul binary32 high11 (float w))
+  product-in = in-mul-by binary32 low11 u high11 (float w) tt tt (positive-of-value (float w) w 1 side a) (taken-in u t)
+
+  -- u * w lies within 2^23, and so does u * w - 0.5: -2^23 - 0.5 rounds to -2^23
+  pub coordinate-in : Between low23 (mul binary32 u (float w)) high23
+  coordinate-in = coord-in u w a b (taken-in u t .low) (taken-in u t .high)
+
+  pub span-in : Between low23 (spanOf u w) high23
+  unfolding ofBits
+  span-in =
+      let k = ends low-end high-end (in-sub binary32 low23 _ high23 half32 half32 half32 tt tt tt tt coordinate-in half-self) in
+      let F = Between-finite low23 (spanOf u w) below23 tt tt k in
+      record { low = k .low; high = le-trans-finite (spanOf u w) below23 high23 F tt tt (k .high) (unfold le in tt) }
+
+  -- their floors
+  pub nearest-floored : Floored (nearestOf u w) (2048 * w) (2048 * w)
+  unfolding nearestOf
+  nearest-floored =
+      floored _ _ _ (2048 * w) (2048 * w)
+      (Between-finite low23 (mul binary32 u (float w)) high23 tt tt coordinate-in)
+      lowest highest product-in
+
+  pub span-floored : Floored (floorOf (spanOf u w)) (2048 * w + 1) (2048 * w)
+  unfolding ofBits
+  span-floored =
+      floored _ _ _ (2048 * w + 1) (2048 * w)
+      (Between-finite low23 (spanOf u w) high23 tt tt span-in)
+      (less-one _ (2048 * w) lowest (omega arith))
+      (less-zero _ (2048 * w) highest (omega arith))
+      (in-sub binary32 _ _ _ zero32 half32 one32 (value-finite (mul binary32 low11 (float w)) true (2048 * w) 1 lowest) (value-finite (mul binary32 high11 (float w)) false (2048 * w) 1 highest) tt tt product-in half-in)
+
+-- a floor of these is a float as it is, and so a number that the code can add 1 to
+pub in-float : (t : ℤ) (n : ℕ) → natAbs t ≤ n → n ≤ 8388609 → T (inFloat binary32 t)
+unfolding inFloat
+in-float (pos k) n h l = le→leb k (2 ^ 24) (omega arith)
+in-float (negsuc k) n h l = lt→ltb k (2 ^ 24) (omega arith)
+
+pub mag-small : (t : ℤ) (n : ℕ) → natAbs t ≤ n → n ≤ 8388609 → mag t < 2 ^ 63
+mag-small (pos k) n h l = omega arith
+mag-small (negsuc k) n h l = omega arith
+
+pub part-in : (x : Float) (t : ℤ) → Between low23 x high23 → t ≡ floorOf x → Between zero32 (sub binary32 x (ofInt binary32 t)) one32
+part-in x t b e = subst (λ (z : ℤ). Between zero32 (sub binary32 x (ofInt binary32 z)) one32) (sym e) (fraction-in x b)
+
+-- the axis, from its floor and the two wrapped numbers
+pub at-axis : (mode : Mode) (x : Float) (w : ℕ) (t : ℤ) (a b : ℕ) → t ≡ floorOf x → a ≡ wrapOf mode t w → b ≡ wrapOf mode (t +ℤ pos 1) w
+    → record { first = a; second = b; part = sub binary32 x (ofInt binary32 t) } ≡ axisOf mode x w
+unfolding axisOf
+at-axis mode x w t a b e i j = rw (i, j, e)

@@ -1,0 +1,77 @@
+// A direction to a face of the cube and the place on it.
+use crate::choice::both;
+use crate::choice::either;
+use crate::choice::pick;
+use crate::choice::pick_face;
+use rules::Spot;
+ghost use mathlib.Core.Path.{_≡_};
+ghost use Prim.Native.Nat.{_≤_};
+ghost use lib.Dec.{T};
+ghost use Rattle.rules.specs.Floats.{magnitude as magnitudeOf};
+ghost use Rattle.rules.specs.Faces.{directionTaken, signOf, oddOf, onFace, spotOf};
+ghost use Rattle.places.specs.Spots.{OnCube};
+
+// 2^-60 and 2^60.
+const LOW: f32 = 0.0000000000000000008673617379884035;
+
+const HIGH: f32 = 1152921504606846976.0;
+
+// |x|; of -0 it is -0, which compares as 0 does.
+fn magnitude(x: f32) -> f32
+    ensures { λ r. ⌜ r ≡ magnitudeOf x ⌝ }
+{
+    if x < 0.0 { -x } else { x }
+}
+
+// Whether no component is a NaN or an infinity and the largest magnitude lies in 2^-60 to 2^60: each magnitude is at most 2^60,
+// and one is 2^-60 at least.
+pub fn direction_taken(x: f32, y: f32, z: f32) -> bool
+    ensures { λ r. ⌜ r ≡ directionTaken x y z ⌝ }
+{
+    let ax = magnitude(x);
+    let ay = magnitude(y);
+    let az = magnitude(z);
+    let low = either(ax >= LOW, either(ay >= LOW, az >= LOW));
+    both(ax <= HIGH, both(ay <= HIGH, both(az <= HIGH, low)))
+}
+
+// 1 for a component >= 0, -0 included, and -1 for one below.
+fn sign(x: f32) -> f32
+    ensures { λ r. ⌜ r ≡ signOf x ⌝ }
+{
+    if x >= 0.0 { 1.0 } else { -1.0 }
+}
+
+// 0 for a component >= 0, -0 included, and 1 for one below: the odd face.
+fn odd(x: f32) -> u32
+    ensures { λ r. ⌜ (r ≡ oddOf x) × (r ≤ 1) ⌝ }
+{
+    if x >= 0.0 { 0 } else { 1 }
+}
+
+// 0.5 * (q/major + 1).
+fn on_face(q: f32, major: f32) -> f32
+    ensures { λ r. ⌜ r ≡ onFace q major ⌝ }
+{
+    0.5 * (q / major + 1.0)
+}
+
+// X if |x| >= |y| and |x| >= |z|; else Y if |y| > |x| and |y| >= |z|; else Z.
+// (u, v) before scaling: (-z*sx, -y), (x, z*sy), (x*sz, -y).
+pub fn spot(x: f32, y: f32, z: f32) -> Spot
+    ensures { λ r. ⌜ (r ≡ spotOf x y z) × (T (directionTaken x y z) → OnCube r) ⌝ }
+{
+    let ax = magnitude(x);
+    let ay = magnitude(y);
+    let az = magnitude(z);
+    let on_x = both(ax >= ay, ax >= az);
+    let on_y = both(ay > ax, ay >= az);
+    let q = pick(on_x, -z * sign(x), pick(on_y, x, x * sign(z)));
+    let p = pick(on_x, -y, pick(on_y, z * sign(y), -y));
+    let major = pick(on_x, ax, pick(on_y, ay, az));
+    Spot {
+        face: pick_face(on_x, odd(x), pick_face(on_y, 2 + odd(y), 4 + odd(z))),
+        u: on_face(q, major),
+        v: on_face(p, major),
+    }
+}

@@ -1,0 +1,4 @@
+pub mod Bounds
+pub mod Rows
+pub mod Levels
+pub mod Steps

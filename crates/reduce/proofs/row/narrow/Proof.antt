@@ -1,0 +1,50 @@
+-- `reduce::row::narrow` meets its contract. Assumes nothing.
+use borrow.Author.Needs.{needs}
+use native.Mathlib.Omega.{arith}
+use Rattle.rules.specs.Reducing.{reduceOf}
+use Rattle.reduce.proofs.Rows.{narrow-is}
+use Rattle.reduce.proofs.row.narrow.Statement.{statement}
+use Rattle.reduce.proofs.row.narrow.Tie as tie
+
+mul-p : tie.Need-mul-p
+mul-p c = search needs
+
+slice-read-p : tie.Need-slice-read-p
+slice-read-p c = search needs
+
+mul-q : tie.Need-mul-q
+mul-q c = search needs
+
+slice-read-q : tie.Need-slice-read-q
+slice-read-q c = search needs
+
+reduce-requires : tie.Need-reduce-requires
+reduce-requires c κs = search needs
+
+mul-s : tie.Need-mul-s
+mul-s c = search needs
+
+slice-write-s : tie.Need-slice-write-s
+slice-write-s c = search needs
+
+same-length : tie.Need-same-length
+same-length c = search needs
+
+returns : tie.Need-returns
+returns c =
+    let start = c .before .before .before .before in
+    narrow-is (reduceOf (start .args .kind)) (start .args .to) (start .args .r0) (start .args .r1) _ (start .args .s .now) (omega arith) (c .reduce .ensures)
+
+pub narrow-spec : {M : Type 1} → statement M
+narrow-spec =
+    tie.close
+    (tie.spec
+    mul-p
+    slice-read-p
+    mul-q
+    slice-read-q
+    reduce-requires
+    mul-s
+    slice-write-s
+    same-length
+    returns)

@@ -1,0 +1,26 @@
+use mathlib.Core.Path.{refl}
+use borrow.Author.Needs.{needs}
+use Rattle.station.proofs.written.sizes_out.Statement.{statement}
+use Rattle.station.proofs.written.sizes_out.Tie as tie
+
+enum-known-answer : tie.Need-enum-known-answer
+enum-known-answer c = search needs
+
+cast-t10 : tie.Need-cast-t10
+cast-t10 c = search needs
+
+cast-t11 : tie.Need-cast-t11
+cast-t11 c = search needs
+
+enum-known-answer-2 : tie.Need-enum-known-answer-2
+enum-known-answer-2 c = search needs
+
+returns : tie.Need-returns
+returns c = rw (c .before .before .answer .given .1) (refl, refl)
+
+returns-2 : tie.Need-returns-2
+returns-2 c = search needs
+
+pub sizes-out-spec : {M : Type 1} → statement M
+sizes-out-spec =
+    tie.close (tie.spec enum-known-answer cast-t10 cast-t11 enum-known-answer-2 returns returns-2)

@@ -1,0 +1,33 @@
+-- `texel::packing::pack` meets its contract. Assumes nothing.
+use lib.Ieee.{binary32, mul, ofBits}
+use lib.Ieee.Fits.{mul-fits}
+use borrow.Author.Needs.{needs}
+use Rattle.rules.specs.Floats.{Between, zero32, top32}
+use Rattle.texel.proofs.Range.{Between-finite}
+use Rattle.texel.proofs.Unit.{scaled-in}
+use Rattle.texel.proofs.Patterns.{widens}
+use Rattle.texel.proofs.Packs.{pack-bits, pack-no-nan}
+use Rattle.texel.proofs.packing.pack.Statement.{statement}
+use Rattle.texel.proofs.packing.pack.Tie as tie
+
+-- the product lies in 0 to 255
+product : (s : tie.Start) → Between zero32 (mul binary32 (s .args .value) top32) top32
+product s = scaled-in (s .args .value) (s .pre)
+
+float-to-float-y : tie.Need-float-to-float-y
+unfolding ofBits
+float-to-float-y c = let s = c .before in widens _ (mul-fits binary32 (s .args .value) top32) (Between-finite zero32 _ top32 tt tt (product s))
+
+float-to-bits-result : tie.Need-float-to-bits-result
+unfolding ofBits
+float-to-bits-result c = let s = c .before in pack-no-nan _ (mul-fits binary32 (s .args .value) top32) (product s)
+
+cast-result : tie.Need-cast-result
+cast-result c = search needs
+
+returns : tie.Need-returns
+unfolding ofBits
+returns c = let s = c .before in pack-bits _ (mul-fits binary32 (s .args .value) top32) (product s)
+
+pub pack-spec : {M : Type 1} → statement M
+pack-spec = tie.close (tie.spec float-to-float-y float-to-bits-result cast-result returns)

@@ -1,0 +1,4 @@
+-- The ranges that the lower crate's functions ask.
+pub mod Ends
+pub mod Digits
+pub mod Tables
