@@ -1,27 +1,22 @@
 // A record's call, by its number: the buffers that it is lent, and the call itself.
-use crate::parts::{
-    cut_agrees, cut_cross_agrees, generate_mipmaps_agrees, level_sizes_agrees, level_view_agrees,
-};
-use crate::samples::{
-    compute_mip_level_agrees, cubemap_uv_from_normal_agrees, sample4_alpha_agrees,
-    sample4_rgb_agrees, sample_bilinear_alpha_agrees, sample_bilinear_rgb_agrees,
-    sample_cubemap_rgb_agrees, sample_cubemap_trilinear_rgb_agrees,
-};
+use crate::parts;
+use crate::samples;
 use crate::stream::texels_of;
-use crate::words::{Record, length};
+use crate::words::Record;
+use crate::words::length;
 
 // A call that reads texels, over them. A number that no call has agrees with nothing.
 fn reading_agrees(record: &Record, texels: &[u32]) -> bool {
     let call = record[0];
     match call {
-        3 => cut_agrees(record, texels),
-        4 => level_view_agrees(record, texels),
-        6 => sample4_rgb_agrees(record, texels),
-        7 => sample4_alpha_agrees(record, texels),
-        8 => sample_bilinear_rgb_agrees(record, texels),
-        9 => sample_bilinear_alpha_agrees(record, texels),
-        11 => sample_cubemap_rgb_agrees(record, texels),
-        12 => sample_cubemap_trilinear_rgb_agrees(record, texels),
+        3 => parts::cut_agrees(record, texels),
+        4 => parts::level_view_agrees(record, texels),
+        6 => samples::sample4_rgb_agrees(record, texels),
+        7 => samples::sample4_alpha_agrees(record, texels),
+        8 => samples::sample_bilinear_rgb_agrees(record, texels),
+        9 => samples::sample_bilinear_alpha_agrees(record, texels),
+        11 => samples::sample_cubemap_rgb_agrees(record, texels),
+        12 => samples::sample_cubemap_trilinear_rgb_agrees(record, texels),
         _ => false,
     }
 }
@@ -34,7 +29,7 @@ fn lent_agrees(record: &Record) -> bool {
     }
     let mut texels = texels_of(record, n);
     if record[0] == 1 {
-        generate_mipmaps_agrees(record, &mut texels[..n])
+        parts::generate_mipmaps_agrees(record, &mut texels[..n])
     } else {
         reading_agrees(record, &texels[..n])
     }
@@ -44,10 +39,10 @@ fn lent_agrees(record: &Record) -> bool {
 pub fn record_agrees(record: &Record) -> bool {
     let call = record[0];
     match call {
-        0 => level_sizes_agrees(record),
-        2 => cut_cross_agrees(record),
-        5 => compute_mip_level_agrees(record),
-        10 => cubemap_uv_from_normal_agrees(record),
+        0 => parts::level_sizes_agrees(record),
+        2 => parts::cut_cross_agrees(record),
+        5 => samples::compute_mip_level_agrees(record),
+        10 => samples::cubemap_uv_from_normal_agrees(record),
         _ => lent_agrees(record),
     }
 }

@@ -57,7 +57,7 @@ fn replay(fd: i32, count: u32) -> u32 {
 fn replay_list(fd: i32) {
     let mut head = [0u32; 36];
     let is_whole = read_record(fd, &mut head);
-    if !is_whole || head[0] != 1312905043 || head[1] != 1 || head[3] != 36 {
+    if !is_whole || head[0] != 0x4E415753 || head[1] != 1 || head[3] != 36 {
         io::write_all(STDOUT_FILENO, b"not a list of answers\n");
         return;
     }

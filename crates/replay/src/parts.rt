@@ -1,17 +1,25 @@
 // The calls on sizes, the chain, the cross, the cut and the view: each asked as a record says, and its answer compared.
-use crate::answers::{agrees, count, four_words};
-use crate::stream::{bytes_of, sum_of, texels_before};
-use crate::words::{Record, length};
-use station::parts::{
-    swathecold_cut, swathecold_cut_cross, swathecold_generate_mipmaps, swathecold_level_sizes,
-    swathecold_level_view,
-};
+use crate::answers::agrees;
+use crate::answers::count;
+use crate::answers::filled_agrees;
+use crate::answers::four_words;
+use crate::stream::bytes_of;
+use crate::stream::sum_of;
+use crate::stream::texels_before;
+use crate::words::Record;
+use crate::words::length;
+use station::parts;
 
 // Call 0.
 pub fn level_sizes_agrees(record: &Record) -> bool {
     let mut sizes = [0u64; 4];
-    let refusal =
-        swathecold_level_sizes(record[2], record[3], record[4], record[6], &mut sizes);
+    let refusal = parts::swathecold_level_sizes(
+        record[2],
+        record[3],
+        record[4],
+        record[6],
+        &mut sizes,
+    );
     let words = four_words(
         count(sizes[0]),
         count(sizes[1]),
@@ -24,18 +32,21 @@ pub fn level_sizes_agrees(record: &Record) -> bool {
 // Call 1.
 pub fn generate_mipmaps_agrees(record: &Record, texels: &mut [u32]) -> bool {
     let mut written = 0u64;
-    let refusal =
-        swathecold_generate_mipmaps(record[2], record[3], record[4], texels, &mut written);
-    let words = four_words(count(written), 0, 0, 0);
-    agrees(record, refusal, &words, sum_of(texels))
+    let refusal = parts::swathecold_generate_mipmaps(
+        record[2],
+        record[3],
+        record[4],
+        texels,
+        &mut written,
+    );
+    filled_agrees(record, refusal, written, sum_of(texels))
 }
 
 // Call 2, over the bytes of the cross.
 fn cross_of_agrees(record: &Record, bytes: &[u8], faces: &mut [u32]) -> bool {
     let mut written = 0u64;
-    let refusal = swathecold_cut_cross(record[3], record[4], bytes, faces, &mut written);
-    let words = four_words(count(written), 0, 0, 0);
-    agrees(record, refusal, &words, sum_of(faces))
+    let refusal = parts::swathecold_cut_cross(record[3], record[4], bytes, faces, &mut written);
+    filled_agrees(record, refusal, written, sum_of(faces))
 }
 
 // Call 2. No buffer of the list is longer than 8192.
@@ -56,7 +67,7 @@ pub fn cut_cross_agrees(record: &Record) -> bool {
 // Call 3, with the target.
 fn cut_into_agrees(record: &Record, source: &[u32], target: &mut [u32]) -> bool {
     let mut written = 0u64;
-    let refusal = swathecold_cut(
+    let refusal = parts::swathecold_cut(
         record[2],
         record[3],
         record[4],
@@ -69,8 +80,7 @@ fn cut_into_agrees(record: &Record, source: &[u32], target: &mut [u32]) -> bool 
         target,
         &mut written,
     );
-    let words = four_words(count(written), 0, 0, 0);
-    agrees(record, refusal, &words, sum_of(target))
+    filled_agrees(record, refusal, written, sum_of(target))
 }
 
 // Call 3.
@@ -86,8 +96,14 @@ pub fn cut_agrees(record: &Record, source: &[u32]) -> bool {
 // Call 4.
 pub fn level_view_agrees(record: &Record, texels: &[u32]) -> bool {
     let mut part = [0u64; 2];
-    let refusal = swathecold_level_view(
-        record[2], record[3], record[4], texels, record[6], record[7], &mut part,
+    let refusal = parts::swathecold_level_view(
+        record[2],
+        record[3],
+        record[4],
+        texels,
+        record[6],
+        record[7],
+        &mut part,
     );
     let words = four_words(count(part[0]), count(part[1]), 0, 0);
     agrees(record, refusal, &words, 0)

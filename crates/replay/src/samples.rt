@@ -1,17 +1,19 @@
 // The lookups: each asked as a record says, and its answer compared.
-use crate::answers::{agrees, four_floats, four_words, twelve_floats};
-use crate::words::{Record, bits, lanes, wholes};
-use station::samples::{
-    swathecold_compute_mip_level, swathecold_cubemap_uv_from_normal, swathecold_sample4_alpha,
-    swathecold_sample4_rgb, swathecold_sample_bilinear_alpha, swathecold_sample_bilinear_rgb,
-    swathecold_sample_cubemap_rgb, swathecold_sample_cubemap_trilinear_rgb,
-};
+use crate::answers::agrees;
+use crate::answers::alphas_agree;
+use crate::answers::colours_agree;
+use crate::answers::four_words;
+use crate::words::Record;
+use crate::words::bits;
+use crate::words::lanes;
+use crate::words::wholes;
+use station::samples;
 
 // Call 5.
 pub fn compute_mip_level_agrees(record: &Record) -> bool {
     let steps = lanes(record, 6);
     let mut level = 0u32;
-    let refusal = swathecold_compute_mip_level(record[3], record[4], &steps, &mut level);
+    let refusal = samples::swathecold_compute_mip_level(record[3], record[4], &steps, &mut level);
     let words = four_words(level, 0, 0, 0);
     agrees(record, refusal, &words, 0)
 }
@@ -22,11 +24,19 @@ pub fn sample4_rgb_agrees(record: &Record, texels: &[u32]) -> bool {
     let v = lanes(record, 12);
     let steps = lanes(record, 16);
     let mut rgb = [0.0f32; 12];
-    let refusal = swathecold_sample4_rgb(
-        record[2], record[3], record[4], texels, record[6], record[7], &u, &v, &steps, &mut rgb,
+    let refusal = samples::swathecold_sample4_rgb(
+        record[2],
+        record[3],
+        record[4],
+        texels,
+        record[6],
+        record[7],
+        &u,
+        &v,
+        &steps,
+        &mut rgb,
     );
-    let words = twelve_floats(&rgb);
-    agrees(record, refusal, &words, 0)
+    colours_agree(record, refusal, &rgb)
 }
 
 // Call 7.
@@ -35,11 +45,19 @@ pub fn sample4_alpha_agrees(record: &Record, texels: &[u32]) -> bool {
     let v = lanes(record, 12);
     let steps = lanes(record, 16);
     let mut alpha = [0.0f32; 4];
-    let refusal = swathecold_sample4_alpha(
-        record[2], record[3], record[4], texels, record[6], record[7], &u, &v, &steps, &mut alpha,
+    let refusal = samples::swathecold_sample4_alpha(
+        record[2],
+        record[3],
+        record[4],
+        texels,
+        record[6],
+        record[7],
+        &u,
+        &v,
+        &steps,
+        &mut alpha,
     );
-    let words = four_floats(&alpha);
-    agrees(record, refusal, &words, 0)
+    alphas_agree(record, refusal, &alpha)
 }
 
 // Call 8.
@@ -48,12 +66,20 @@ pub fn sample_bilinear_rgb_agrees(record: &Record, texels: &[u32]) -> bool {
     let v = lanes(record, 12);
     let faces = wholes(record, 17);
     let mut rgb = [0.0f32; 12];
-    let refusal = swathecold_sample_bilinear_rgb(
-        record[2], record[3], record[4], texels, record[6], record[7], &u, &v, record[16], &faces,
+    let refusal = samples::swathecold_sample_bilinear_rgb(
+        record[2],
+        record[3],
+        record[4],
+        texels,
+        record[6],
+        record[7],
+        &u,
+        &v,
+        record[16],
+        &faces,
         &mut rgb,
     );
-    let words = twelve_floats(&rgb);
-    agrees(record, refusal, &words, 0)
+    colours_agree(record, refusal, &rgb)
 }
 
 // Call 9.
@@ -61,12 +87,19 @@ pub fn sample_bilinear_alpha_agrees(record: &Record, texels: &[u32]) -> bool {
     let u = lanes(record, 8);
     let v = lanes(record, 12);
     let mut alpha = [0.0f32; 4];
-    let refusal = swathecold_sample_bilinear_alpha(
-        record[2], record[3], record[4], texels, record[6], record[7], &u, &v, record[16],
+    let refusal = samples::swathecold_sample_bilinear_alpha(
+        record[2],
+        record[3],
+        record[4],
+        texels,
+        record[6],
+        record[7],
+        &u,
+        &v,
+        record[16],
         &mut alpha,
     );
-    let words = four_floats(&alpha);
-    agrees(record, refusal, &words, 0)
+    alphas_agree(record, refusal, &alpha)
 }
 
 // Call 10.
@@ -76,7 +109,7 @@ pub fn cubemap_uv_from_normal_agrees(record: &Record) -> bool {
     let z = lanes(record, 14);
     let mut uv = [0.0f32; 8];
     let mut faces = [0u32; 4];
-    let refusal = swathecold_cubemap_uv_from_normal(&x, &y, &z, &mut uv, &mut faces);
+    let refusal = samples::swathecold_cubemap_uv_from_normal(&x, &y, &z, &mut uv, &mut faces);
     let words = [
         bits(uv[0]),
         bits(uv[1]),
@@ -101,11 +134,18 @@ pub fn sample_cubemap_rgb_agrees(record: &Record, texels: &[u32]) -> bool {
     let z = lanes(record, 14);
     let levels = wholes(record, 18);
     let mut rgb = [0.0f32; 12];
-    let refusal = swathecold_sample_cubemap_rgb(
-        record[2], record[3], record[4], texels, &x, &y, &z, &levels, &mut rgb,
+    let refusal = samples::swathecold_sample_cubemap_rgb(
+        record[2],
+        record[3],
+        record[4],
+        texels,
+        &x,
+        &y,
+        &z,
+        &levels,
+        &mut rgb,
     );
-    let words = twelve_floats(&rgb);
-    agrees(record, refusal, &words, 0)
+    colours_agree(record, refusal, &rgb)
 }
 
 // Call 12.
@@ -115,9 +155,16 @@ pub fn sample_cubemap_trilinear_rgb_agrees(record: &Record, texels: &[u32]) -> b
     let z = lanes(record, 14);
     let levels = lanes(record, 18);
     let mut rgb = [0.0f32; 12];
-    let refusal = swathecold_sample_cubemap_trilinear_rgb(
-        record[2], record[3], record[4], texels, &x, &y, &z, &levels, &mut rgb,
+    let refusal = samples::swathecold_sample_cubemap_trilinear_rgb(
+        record[2],
+        record[3],
+        record[4],
+        texels,
+        &x,
+        &y,
+        &z,
+        &levels,
+        &mut rgb,
     );
-    let words = twelve_floats(&rgb);
-    agrees(record, refusal, &words, 0)
+    colours_agree(record, refusal, &rgb)
 }

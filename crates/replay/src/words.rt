@@ -31,21 +31,17 @@ pub fn words(bytes: &[u8; 144]) -> Record {
     record
 }
 
-// The float of these bits. A NaN has no bits of its own here: every NaN's bits give a NaN.
+// The float of these bits. The bits of any NaN give a NaN, whichever.
 fn float(bits: u32) -> f32 {
-    if bits % 2147483648 > 2139095040 {
+    if bits % 0x80000000 > 0x7F800000 {
         return 0.0 / 0.0;
     }
     f32::from_bits(bits)
 }
 
-// The bits of a float; of any NaN one that no answer of the list has.
+// The bits of a float; of any NaN 7FC00000, which stands in no answer.
 pub fn bits(x: f32) -> u32 {
-    if x == x {
-        f32::to_bits(x)
-    } else {
-        2143289344
-    }
+    if x == x { f32::to_bits(x) } else { 0x7FC00000 }
 }
 
 // Four words of a record, one a lane.
