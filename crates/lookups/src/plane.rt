@@ -1,10 +1,10 @@
 // A level within a chain.
-use places::choice::smaller;
-use rules::Plane;
 use levels::sizes::faces_of;
 use levels::sizes::side_at;
 use levels::sizes::start_of;
 use levels::sizes::top_level;
+use places::choice::smaller;
+use rules::Plane;
 ghost use mathlib.Core.Path.{_≡_};
 ghost use Prim.Native.Nat.{_≤_, min};
 ghost use Rattle.rules.specs.Kinds.{cubemap};
