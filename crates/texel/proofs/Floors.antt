@@ -7,10 +7,10 @@ use Prim.Native.Nat.{ℕ, zero, suc, _+_, _-_, _*_, _/_, _%_, _^_, _≤_, _<_, c
 use native.Mathlib.Nat.{le-trans, le-of-eq, le-antisymm, le-of-suc-le-suc, lt-of-not-le, eq-or-lt-of-le, zero-add, zero-mul, mul-one, mul-right-comm, add-mul, mul-lt-mul-of-pos-right, lt-of-mul-lt-mul-right, div-add-mod', div-lt-iff-lt-mul, add-mul-div-right, mod-lt}
 use native.Mathlib.Omega.{arith}
 use lib.IntN.{ℤ, pos, negsuc, negℤ, subℕ, predℤ, _-ℤ_, -ℤ-one}
-use lib.Dec.{T, lt→ltb, le→leb, lit<}
+use lib.Dec.{T, lt→ltb, le→leb, lit<, lit≤}
 use lib.Arith.{digits-div}
 use lib.Signed.{mag}
-use lib.Ieee.{Float, nan, inf, fin, binary32, binary64, up, down, lt, add, ofInt, inFloat, toBits, isNan}
+use lib.Ieee.{Float, nan, inf, fin, binary32, binary64, up, down, round, sub, lt, add, ofInt, inFloat, toBits, isNan}
 use lib.Ieee.Fits.{down-pos, nearest-le}
 use lib.Ieee.Nearest.{closest, nearest-ge}
 use lib.Ieee.Exact.{HasValue}
@@ -24,7 +24,7 @@ use Rattle.rules.specs.Whole.{floorOf}
 use Rattle.texel.specs.Ends.{low23, high23}
 use Rattle.texel.proofs.Range.{plus, less, sgn, le→, lt→, →lt, Between-finite}
 use Rattle.texel.proofs.Patterns.{no-nan}
-use Rattle.texel.proofs.Sums.{Moved, moved, rounded-bits, rounded-finite}
+use Rattle.texel.proofs.Sums.{Moved, moved, value, rounded-bits, rounded-finite, whole-value, Back, back}
 
 -- ---- u - 2^23 as a signed number
 below : (u : ℕ) → u < 8388608 → subℕ u 8388608 ≡ negsuc (8388608 - suc u)
@@ -281,20 +281,29 @@ module _ (x : Float) (b : Between low23 x high23) where
   pub whole : Lowered low-bits (subℕ low-bits 8388608)
   whole = let h = between .1 in let l = small in lowered low-bits (omega arith)
 
+  -- the sum less what was added is that whole number again
+  again : Back (sub binary64 (add binary64 x (fin false 536870913 (pos 23))) (fin false 536870913 (pos 23))) (closest (sum .size * 2 ^ 0) d) 4503599635759104
+  again =
+      back (add binary64 x (fin false 536870913 (pos 23))) (closest (sum .size * 2 ^ 0) d) 536870913 23
+      (subst (λ (y : Float). HasValue y false (closest (sum .size * 2 ^ 0) d) 1) (sym (sum .is)) (whole-value (round binary64 false (sum .size) d) (closest (sum .size * 2 ^ 0) d) (value (sum .size) d 0 (den-pos x) zero-le least most)))
+      (let m = most in omega arith) (lit≤ tt)
+
+  beside : plus (again .sign) (again .size) + 8388608 ≡ low-bits + less (again .sign) (again .size)
+  beside = let e = bits-are in let l = low in let w = again .val in omega arith
+
   -- where it is above x, the floor is the number before it; where it is not, it is the floor
-  pub floor-before : lt x (ofInt binary32 (subℕ low-bits 8388608)) ≡ true → subℕ low-bits 8388608 -ℤ pos 1 ≡ floorOf x
+  pub floor-before : lt x (sub binary64 (add binary64 x (fin false 536870913 (pos 23))) (fin false 536870913 (pos 23))) ≡ true → subℕ low-bits 8388608 -ℤ pos 1 ≡ floorOf x
   floor-before h =
-      let l : n < low-bits * d = under x (ofInt binary32 (subℕ low-bits 8388608)) finite-x (whole .sign) (whole .size) low-bits n (whole .value) (whole .val) (raised x b .val) (subst T (sym h) tt) in
+      let l : n < low-bits * d = under x _ finite-x (again .sign) (again .size) low-bits n (again .value) beside (raised x b .val) (subst T (sym h) tt) in
       let k : n / d < low-bits = div-lt-iff-lt-mul (den-pos x) .1 l in
       let e : low-bits ≡ suc (n / d) = let t = between .1 in omega arith in
       ap (λ (z : ℕ). subℕ z 8388608 -ℤ pos 1) e ∙ lowered-pred (n / d) ∙ floor-is x b (raised x b)
 
-  pub floor-same : lt x (ofInt binary32 (subℕ low-bits 8388608)) ≡ false → subℕ low-bits 8388608 ≡ floorOf x
+  pub floor-same : lt x (sub binary64 (add binary64 x (fin false 536870913 (pos 23))) (fin false 536870913 (pos 23))) ≡ false → subℕ low-bits 8388608 ≡ floorOf x
   floor-same h = ap (λ (z : ℕ). subℕ z 8388608) e ∙ floor-is x b (raised x b)
     where
       not-above : n / d < low-bits → ⊥
-      not-above k =
-          subst T h (from-under x (ofInt binary32 (subℕ low-bits 8388608)) finite-x (whole .sign) (whole .size) low-bits n (whole .value) (whole .val) (raised x b .val) (div-lt-iff-lt-mul (den-pos x) .0 k))
+      not-above k = subst T h (from-under x _ finite-x (again .sign) (again .size) low-bits n (again .value) beside (raised x b .val) (div-lt-iff-lt-mul (den-pos x) .0 k))
 
       e : low-bits ≡ n / d
       e = le-antisymm (le-of-suc-le-suc (lt-of-not-le not-above)) (between .0)

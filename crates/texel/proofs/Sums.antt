@@ -4,19 +4,20 @@
 use mathlib.Core.Path.{_≡_, refl, sym, ap, _∙_, subst}
 use mathlib.Core.Bool.{Bool, true, false}
 use Prim.Native.Nat.{ℕ, _+_, _-_, _*_, _/_, _%_, _^_, _≤_, _<_, compare, zero-le}
-use native.Mathlib.Nat.{le-trans, le-of-eq, lt-of-lt-of-le, lt-of-le-of-lt, lt-of-not-le, not-le-of-lt, mul-one, mul-comm, mul-assoc, mul-right-comm, mul-le-mul-right, mul-lt-mul-of-pos-right, mul-pos, mul-div-cancel, le-div-iff-mul-le, div-lt-iff-lt-mul}
+use native.Mathlib.Nat.{le-trans, le-of-eq, lt-of-lt-of-le, lt-of-le-of-lt, lt-of-not-le, not-le-of-lt, mul-one, mul-comm, mul-assoc, mul-right-comm, mul-le-mul-right, mul-lt-mul-of-pos-right, mul-pos, mul-div-cancel, le-div-iff-mul-le, div-lt-iff-lt-mul, add-mul, le-of-mul-le-mul-right, eq-of-mul-eq-mul-right}
 use native.Mathlib.Omega.{arith}
 use lib.IntN.{pos}
-use lib.Dec.{T}
+use lib.Dec.{T, lit<}
 use lib.Pow.{pow-add, pow-pos, pow-mono, shl-lt, shl-shr}
-use lib.Ieee.{Float, nan, inf, fin, binary64, up, down, size, units, round, add, toBits}
+use lib.Ieee.{Float, nan, inf, fin, binary64, up, down, size, units, round, add, sub, toBits}
 use lib.Ieee.Digits.{size-lt, size-le}
 use lib.Ieee.Fits.{down-pos, core, round-is}
 use lib.Ieee.Exact.{HasValue, units-val}
 use lib.Ieee.Nearest.{closest, closest-same, nearest-ge}
-use lib.Ieee.Scale.{finite}
+use lib.Ieee.Back.{round-whole}
+use lib.Ieee.Scale.{finite, round-same}
 use lib.Ieee.Positive.{num, den}
-use Rattle.texel.proofs.Range.{plus, less, sgn, add-is}
+use Rattle.texel.proofs.Range.{plus, less, sgn, add-is, sub-is}
 
 -- ---- the pattern of a value with 53 digits
 size-is : (a n : ℕ) → 2 ^ (52 + a) ≤ n → n < 2 ^ (53 + a) → size n - 53 ≡ a
@@ -61,7 +62,7 @@ module _ (n d g : ℕ) (some : 0 < d) (few : g ≤ 1074) (least : 2 ^ 52 * d ≤
       (lt-of-le-of-lt (le-of-eq scaled)
       (lt-of-lt-of-le (mul-lt-mul-of-pos-right (div-lt-iff-lt-mul some .0 under) (pow-pos (1074 - g))) (le-of-eq (mul-right-comm (2 ^ 53) d (2 ^ (1074 - g)) ∙ ap (λ (z : ℕ). z * d) (sym (pow-add 2 53 (1074 - g))))))))
 
-  value : HasValue (round binary64 false n d) false (closest (n * 2 ^ g) d * 2 ^ (1074 - g)) (2 ^ 1074)
+  pub value : HasValue (round binary64 false n d) false (closest (n * 2 ^ g) d * 2 ^ (1074 - g)) (2 ^ 1074)
   value =
       subst (λ (x : Float). HasValue x false (closest (n * 2 ^ g) d * 2 ^ (1074 - g)) (2 ^ 1074))
       (sym (round-is binary64 false n d ∙ ap (core binary64 false (n * 2 ^ 1074) d) kept ∙ ap (λ (q : ℕ). units binary64 false q (1074 - g)) same))
@@ -83,6 +84,12 @@ module _ (n d g : ℕ) (some : 0 < d) (few : g ≤ 1074) (least : 2 ^ 52 * d ≤
       go nan v = absurd v
       go (inf s) v = absurd v
       go (fin s m e) v = tt
+
+-- a whole number of 2 ^ 1074 units
+pub whole-value : (x : Float) (q : ℕ) → HasValue x false (q * 2 ^ 1074) (2 ^ 1074) → HasValue x false q 1
+whole-value nan q v = absurd v
+whole-value (inf s) q v = absurd v
+whole-value (fin s m e) q v = (v .0, mul-one (m * up e) ∙ eq-of-mul-eq-mul-right (2 ^ 1074) (pow-pos 1074) (m * up e) (q * down e) (v .1 ∙ mul-right-comm q (2 ^ 1074) (down e)))
 
 -- ---- a value x with c added, as one fraction over x's denominator
 pub record Moved (x m : Float) (c : ℕ) : Type 0 where
@@ -112,3 +119,43 @@ moved x a j f h = go (add-is binary64 x (fin false a (pos j)) f tt .sign) (add-i
       is = e ∙ ap (round binary64 false n) (mul-one (den x));
       val = plain n (less (sgn x) (num x)) (plus (sgn x) (num x)) (a * 2 ^ j * den x) (subst (λ (z : ℕ). n + (less (sgn x) z + 0) ≡ plus (sgn x) z + a * 2 ^ j * den x + 0) (mul-one (num x)) v);
     }
+
+-- ---- a whole number q less c, both within 53 digits: the difference is exact
+pub record Back (z : Float) (q c : ℕ) : Type 0 where
+  pub sign : Bool
+  pub size : ℕ
+  pub value : HasValue z sign size 1
+  pub val : plus sign size + c ≡ q + less sign size
+
+-- the larger one less the other, over a denominator d
+apart : (l s d n : ℕ) → 0 < d → n + s * d ≡ l * d → (s ≤ l) × (n ≡ (l - s) * d)
+apart l s d n D h =
+    let k : s ≤ l = le-of-mul-le-mul-right (omega arith) D in
+    let e : l - s + s ≡ l = omega arith in
+    let p : (l - s) * d + s * d ≡ l * d = sym (add-mul (l - s) s d) ∙ ap (λ (z : ℕ). z * d) e in
+    (k, omega arith)
+
+exact : (z : Float) (s : Bool) (n k d : ℕ) → 0 < d → z ≡ round binary64 s n (d * 1) → n ≡ k * d → k ≤ 2 ^ 53 → HasValue z s k 1
+exact z s n k d D i e h =
+    subst (λ (x : Float). HasValue x s k 1)
+    (sym (i ∙ ap (λ (a : ℕ). round binary64 s a (d * 1)) e ∙ round-same binary64 s (k * d) (d * 1) k 1 (mul-pos D (lit< tt)) (lit< tt) (mul-assoc k d 1)))
+    (round-whole binary64 s k h)
+
+pub back : (y : Float) (q a j : ℕ) → HasValue y false q 1 → q ≤ 2 ^ 53 → a * 2 ^ j ≤ 2 ^ 53 → Back (sub binary64 y (fin false a (pos j))) q (a * 2 ^ j)
+back nan q a j v Q C = absurd v
+back (inf s) q a j v Q C = absurd v
+back (fin true m e) q a j v Q C = absurd (subst T (v .0) tt)
+back (fin false m e) q a j v Q C =
+    let k = sub-is binary64 (fin false m e) (fin false a (pos j)) tt tt in
+    go (k .sign) (k .size) (k .is) (subst (λ (n : ℕ). plus (k .sign) (k .size) + (0 * 1 + a * 2 ^ j * down e) ≡ n * 1 + 0 * down e + less (k .sign) (k .size)) (sym (mul-one (m * up e)) ∙ v .1) (k .val))
+  where
+    go : (s : Bool) (n : ℕ) → sub binary64 (fin false m e) (fin false a (pos j)) ≡ round binary64 s n (down e * 1)
+        → plus s n + (0 * 1 + a * 2 ^ j * down e) ≡ q * down e * 1 + 0 * down e + less s n → Back (sub binary64 (fin false m e) (fin false a (pos j))) q (a * 2 ^ j)
+    go true n i h =
+        let k = apart (a * 2 ^ j) q (down e) n (down-pos e) (omega arith) in
+        let l = k .0 in
+        record { sign = true; size = a * 2 ^ j - q; value = exact _ true n (a * 2 ^ j - q) (down e) (down-pos e) i (k .1) (omega arith); val = omega arith }
+    go false n i h =
+        let k = apart q (a * 2 ^ j) (down e) n (down-pos e) (omega arith) in
+        let l = k .0 in
+        record { sign = false; size = q - a * 2 ^ j; value = exact _ false n (q - a * 2 ^ j) (down e) (down-pos e) i (k .1) (omega arith); val = omega arith }

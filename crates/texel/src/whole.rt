@@ -10,9 +10,14 @@ pub fn floor(x: f32) -> i64
     requires { ⌜ Between low23 x high23 ⌝ }
     ensures { λ r. ⌜ r ≡ floorOf x ⌝ }
 {
-    let y = (x as f64) + 4503599635759104.0;
+    let wide = x as f64;
+    let y = wide + 4503599635759104.0;
     let t = (f64::to_bits(y) % 4503599627370496) as i64 - 8388608;
-    if x < (t as f32) { t - 1 } else { t }
+    if wide < y - 4503599635759104.0 {
+        t - 1
+    } else {
+        t
+    }
 }
 
 // The nearest whole number, a half to the even neighbour, for a p from 0 to 2^12. The f64 sum p + 2^52 is rounded so, and has it in its low

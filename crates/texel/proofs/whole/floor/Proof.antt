@@ -15,11 +15,9 @@ use Rattle.texel.proofs.Patterns.{widens}
 use Rattle.texel.proofs.Floors.{low-bits, whole, sum-no-nan, floor-before, floor-same}
 use Rattle.texel.proofs.whole.floor.Statement.{statement}
 use Rattle.texel.proofs.whole.floor.Tie as tie
-use Rattle.texel.proofs.whole.floor.Reads as reads
-use Rattle.texel.proofs.whole.floor.Lts as lts
 
-float-to-float-y : tie.Need-float-to-float-y
-float-to-float-y c = let s = c .before in widens (s .args .x) (subst T (sym (s .good .0 .1)) tt) (Between-finite low23 (s .args .x) high23 tt tt (s .pre))
+float-to-float-wide : tie.Need-float-to-float-wide
+float-to-float-wide c = let s = c .before in widens (s .args .x) (subst T (sym (s .good .0 .1)) tt) (Between-finite low23 (s .args .x) high23 tt tt (s .pre))
 
 float-to-bits-t : tie.Need-float-to-bits-t
 unfolding ofBits
@@ -45,30 +43,28 @@ sub-t c = let s = c .before in rw (raw-is s) (sfits-of (whole (s .args .x) (s .p
 t-is : (c : tie.After-row-known) → toZ w64 (ofZ w64 (raw (c .before))) ≡ t-of (c .before)
 t-is c = toZ-ofZ w64 (raw (c .before)) (sub-t c) ∙ raw-is (c .before)
 
-int-to-float-if1 : tie.Need-int-to-float-if1
-int-to-float-if1 c = let d = c .before in let s = d .before in rw (t-is d) (whole (s .args .x) (s .pre) .held)
-
 sub-result : tie.Need-sub-result
-sub-result c = let d = c .before .before in let s = d .before in rw (t-is d) (sfits-of (whole (s .args .x) (s .pre) .before))
+sub-result c = let d = c .before in let s = d .before in rw (t-is d) (sfits-of (whole (s .args .x) (s .pre) .before))
 
 returns : tie.Need-returns
+unfolding ofBits
 returns c =
-    let d = c .before .before in
+    let d = c .before in
     let s = d .before in
-    toZ-ofZ w64 (toZ w64 (ofZ w64 (raw s)) -ℤ pos 1) (sub-result c) ∙ ap (λ (z : ℤ). z -ℤ pos 1) (t-is d) ∙ floor-before (s .args .x) (s .pre) (rw (t-is d) at (c .if1 .taken))
+    toZ-ofZ w64 (toZ w64 (ofZ w64 (raw s)) -ℤ pos 1) (sub-result c) ∙ ap (λ (z : ℤ). z -ℤ pos 1) (t-is d) ∙ floor-before (s .args .x) (s .pre) (c .if1 .taken)
 
 returns-2 : tie.Need-returns-2
-returns-2 c = let d = c .before .before in let s = d .before in t-is d ∙ floor-same (s .args .x) (s .pre) (rw (t-is d) at (c .if1 .left))
+unfolding ofBits
+returns-2 c = let d = c .before in let s = d .before in t-is d ∙ floor-same (s .args .x) (s .pre) (c .if1 .left)
 
 pub floor-spec : {M : Type 1} → statement M
 floor-spec =
     tie.close
     (tie.spec
-    float-to-float-y
+    float-to-float-wide
     float-to-bits-t
     cast-t
     sub-t
-    int-to-float-if1
     sub-result
     returns
     returns-2)
