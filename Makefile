@@ -4,7 +4,8 @@
 CC ?= cc
 CFLAGS = -std=c11 -O2 -Wall -Wextra -Werror -Iinclude
 ARCHIVE = target/staticlib/libstation.a
-COMPARE = cargo run --quiet --release --offline --manifest-path bindings/compare/Cargo.toml --features unit
+PLAIN = cargo run --quiet --release --offline --manifest-path bindings/compare/Cargo.toml
+COMPARE = $(PLAIN) --features unit
 export SWATHECOLD_LIB = $(CURDIR)/target/staticlib
 export CARGO_TARGET_DIR = $(CURDIR)/target/cargo
 
@@ -45,9 +46,9 @@ differential: archive
 bench: archive
 	$(COMPARE) --bin bench
 
-# Makes the stored answers again that crates/replay runs.
+# Makes the stored answers again that crates/replay runs, from document 01 read plainly: no unit is asked.
 answers:
-	$(COMPARE) --bin answers -- crates/replay/data
+	$(PLAIN) --bin answers -- make crates/replay/data/answers.bin
 
 # Check time, code lines, definition lines and proof lines of each crate.
 proof-times:

@@ -17,7 +17,7 @@ pub fn nearest_texel(u: f32, width: usize) -> i64
     requires { ⌜ T (coordinateTaken u) × (1 ≤ width) × (width ≤ 4096) ⌝ }
     ensures { λ r. ⌜ (r ≡ nearestOf u width) × (natAbs r ≤ 2048 * width + 1) ⌝ }
 {
-    texel::whole::floor(u * (width as f32))
+    texel::whole::floor(u * (width as u32 as f32))
 }
 
 // The texel of the nearest lookup along a side: t wrapped.
@@ -33,7 +33,7 @@ pub fn axis(mode: Mode, u: f32, width: usize) -> Axis
     requires { ⌜ T (coordinateTaken u) × (1 ≤ width) × (width ≤ 4096) ⌝ }
     ensures { λ r. ⌜ (r ≡ axisOf mode (spanOf u width) width) × (r .first < width) × (r .second < width) × Between zero32 (r .part) one32 ⌝ }
 {
-    let x = u * (width as f32) - 0.5;
+    let x = u * (width as u32 as f32) - 0.5;
     let t = texel::whole::floor(x);
     let first = wrap(mode, t, width);
     let second = wrap(mode, t + 1, width);

@@ -12,7 +12,7 @@ pub fn cube_texel(u: f32, width: usize) -> usize
     requires { ⌜ Between zero32 u one32 × (1 ≤ width) × (width ≤ 4096) ⌝ }
     ensures { λ r. ⌜ (r ≡ cubeTexel u width) × (r < width) ⌝ }
 {
-    texel::whole::round_even(u * ((width - 1) as f32))
+    texel::whole::round_even(u * ((width - 1) as u32 as f32))
 }
 
 // A fractional level held to 0..top.
@@ -37,7 +37,7 @@ pub fn pairing(fraction: f32, top: usize) -> Pairing
     requires { ⌜ T (finite fraction) × (top ≤ 12) ⌝ }
     ensures { λ r. ⌜ (r ≡ pairingOf fraction top) × (r .low ≤ top) × (r .high ≤ top) × Between zero32 (r .part) one32 ⌝ }
 {
-    let held = hold(fraction, top as f32);
+    let held = hold(fraction, top as u32 as f32);
     let l = texel::whole::floor(held);
     let low = l as usize;
     Pairing {

@@ -1,5 +1,5 @@
 // The C boundary: what a station links. Each export is one call of the unit: numbers in, a refusal number out, 0 where it was done.
 pub mod lanes;
 pub mod parts;
-// mod samples;
+pub mod samples;
 pub mod written;

@@ -17,3 +17,4 @@ pub mod RootRule
 pub mod Every
 pub mod Table
 pub mod Inverse
+pub mod Claims

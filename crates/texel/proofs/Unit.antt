@@ -1,21 +1,21 @@
--- The ranges of what reducing works out: a byte unpacked and a mean of four lie in 0 to 1, and what packs fits a byte. Each is a law of Range at constants.
--- Assumes nothing.
+-- Values that stay within 0 to 1: a byte unpacked, the mean of four, Normal's spread and back, a weight, one less a weight, a product of two,
+-- and a place on a face. Each operation keeps the order (Range), and what it makes of the ends of a range is computed. Assumes nothing.
 use mathlib.Core.Path.{_≡_, refl, subst₂}
 use Prim.Native.Nat.{ℕ, _≤_, _<_, zero-le}
 use native.Mathlib.Nat.{mul-le-mul-right, zero-lt-suc}
 use native.Mathlib.Omega.{arith}
-use mathlib.Core.Bool.{true, false}
 use lib.Dec.{T}
 use lib.IntN.{pos}
-use lib.Ieee.{Float, fin, Format, binary32, round, neg, add, sub, mul, div, le, lt, ofInt, ofBits, toUnsigned}
+use lib.Ieee.{Float, Format, binary32, round, neg, add, sub, mul, div, le, ofInt, ofBits, toUnsigned}
 use lib.Ieee.Order.{round-mono}
 use lib.Ieee.Scale.{finite}
 use lib.Ieee.Positive.{positive, positive-finite}
-use Rattle.rules.specs.Floats.{Between, zero32, half32, one32, minus1, two32, four32, top32, unpackOf, packOf, meanOf}
+use Rattle.rules.specs.Floats.{Between, zero32, half32, one32, minus1, two32, four32, top32, unpackOf, packOf, meanOf, restOf}
 use Rattle.rules.specs.Reducing.{spreadOf, backOf, normalMean}
 use Rattle.rules.specs.Faces.{onFace}
-use Rattle.texel.proofs.Range.{Between-finite, in-add, in-sub, in-mul, in-div, whole-mono, le-lt-trans, lt-le-trans, neg-finite, div-self, div-neg-self}
+use Rattle.texel.proofs.Range.{Between-finite, in-add, in-sub, in-mul, in-div, whole-mono, neg-finite, div-self, div-neg-self}
 
+-- a range whose ends are written otherwise
 pub ends : {lo lo' x hi hi' : Float} → lo ≡ lo' → hi ≡ hi' → Between lo x hi → Between lo' x hi'
 ends {x = x} p q b = subst₂ (λ (l h : Float). Between l x h) p q b
 
@@ -39,38 +39,45 @@ unpack-in b h = ends c0 c1 (in-div binary32 (ofInt binary32 (pos 0)) (ofInt bina
 pub unpacked-in : {r : Float} {b : ℕ} → r ≡ unpackOf b → b < 256 → Between zero32 r one32
 unpacked-in {r} {b} e h = rw e (unpack-in b h)
 
--- ---- the mean of four values in 0 to 1
+-- ---- the mean of four values of one range
 abbrev sum4 : Float → Float → Float → Float → Float
 sum4 a b c d = add binary32 (add binary32 (add binary32 a b) c) d
 
-m0 : div binary32 (sum4 zero32 zero32 zero32 zero32) four32 ≡ zero32
-unfolding add div ofBits
-m0 = refl
+mean-from : (lo hi a b c d : Float) → T (finite lo) → T (finite hi)
+    → T (finite (add binary32 lo lo)) → T (finite (add binary32 hi hi))
+    → T (finite (add binary32 (add binary32 lo lo) lo)) → T (finite (add binary32 (add binary32 hi hi) hi))
+    → T (finite (sum4 lo lo lo lo)) → T (finite (sum4 hi hi hi hi))
+    → Between lo a hi → Between lo b hi → Between lo c hi → Between lo d hi → Between (meanOf lo lo lo lo) (meanOf a b c d) (meanOf hi hi hi hi)
+mean-from lo hi a b c d L H L2 H2 L3 H3 L4 H4 p q r s =
+    in-div binary32 (sum4 lo lo lo lo) (sum4 a b c d) (sum4 hi hi hi hi) four32 L4 H4 above
+    (in-add binary32 (add binary32 (add binary32 lo lo) lo) (add binary32 (add binary32 a b) c) (add binary32 (add binary32 hi hi) hi) lo d hi L3 H3 L H
+    (in-add binary32 (add binary32 lo lo) (add binary32 a b) (add binary32 hi hi) lo c hi L2 H2 L H
+    (in-add binary32 lo a hi lo b hi L H L H p q) r) s)
+  where
+    above : T (positive four32)
+    above = unfold ofBits in tt
 
-m1 : div binary32 (sum4 one32 one32 one32 one32) four32 ≡ one32
-unfolding add div ofBits
-m1 = refl
+n-low : meanOf minus1 minus1 minus1 minus1 ≡ minus1
+unfolding ofBits add div neg
+n-low = refl
 
+m-low : meanOf zero32 zero32 zero32 zero32 ≡ zero32
+unfolding ofBits add div
+m-low = refl
+
+m-high : meanOf one32 one32 one32 one32 ≡ one32
+unfolding ofBits add div
+m-high = refl
+
+-- in 0 to 1
 pub mean-in : (a b c d : Float) → Between zero32 a one32 → Between zero32 b one32 → Between zero32 c one32 → Between zero32 d one32 → Between zero32 (meanOf a b c d) one32
-unfolding add ofBits
-mean-in a b c d p q r s =
-    let u = in-add binary32 zero32 a one32 zero32 b one32 tt tt tt tt p q in
-    let v = in-add binary32 (add binary32 zero32 zero32) (add binary32 a b) (add binary32 one32 one32) zero32 c one32 tt tt tt tt u r in
-    let w = in-add binary32 (add binary32 (add binary32 zero32 zero32) zero32) (add binary32 (add binary32 a b) c) (add binary32 (add binary32 one32 one32) one32) zero32 d one32 tt tt tt tt v s in
-    ends m0 m1 (in-div binary32 (sum4 zero32 zero32 zero32 zero32) (sum4 a b c d) (sum4 one32 one32 one32 one32) four32 tt tt tt w)
+unfolding ofBits add
+mean-in a b c d p q r s = ends m-low m-high (mean-from zero32 one32 a b c d tt tt tt tt tt tt tt tt p q r s)
 
--- ---- packing
-p0 : mul binary32 zero32 top32 ≡ zero32
-unfolding mul ofBits
-p0 = refl
-
+-- ---- the pack: value * 255.0 lies in 0 to 255, and its whole part is a byte
 p1 : mul binary32 one32 top32 ≡ top32
 unfolding mul ofBits
 p1 = refl
-
-top-in : Between top32 top32 top32
-unfolding ofBits le
-top-in = record { low = tt; high = tt }
 
 lift : Between zero32 top32 top32
 unfolding ofBits le
@@ -89,33 +96,7 @@ pack-lt x b =
     let k = scaled-in x b in
     whole-mono 64 (mul binary32 x top32) top32 (Between-finite zero32 (mul binary32 x top32) top32 tt tt k) tt (k .high)
 
--- what a truncating cast asks
-pub cast-asks : (x : Float) → Between zero32 x top32 → T (lt (fin true 1 (pos 0)) x) × T (lt x (fin false 1 (pos 64)))
-unfolding ofBits lt
-cast-asks x b =
-    let F = Between-finite zero32 x top32 tt tt b in
-    (lt-le-trans (fin true 1 (pos 0)) zero32 x tt tt F tt (b .low), le-lt-trans x top32 (fin false 1 (pos 64)) F tt tt (b .high) tt)
-
--- ---- a law over the operation's ends: the four sums of one range, divided by 4
-mean-from : (lo hi a b c d : Float) → T (finite lo) → T (finite hi)
-    → T (finite (add binary32 lo lo)) → T (finite (add binary32 hi hi))
-    → T (finite (add binary32 (add binary32 lo lo) lo)) → T (finite (add binary32 (add binary32 hi hi) hi))
-    → T (finite (sum4 lo lo lo lo)) → T (finite (sum4 hi hi hi hi))
-    → Between lo a hi → Between lo b hi → Between lo c hi → Between lo d hi → Between (meanOf lo lo lo lo) (meanOf a b c d) (meanOf hi hi hi hi)
-mean-from lo hi a b c d L H L2 H2 L3 H3 L4 H4 p q r s =
-    in-div binary32 (sum4 lo lo lo lo) (sum4 a b c d) (sum4 hi hi hi hi) four32 L4 H4 four-above
-    (in-add binary32 (add binary32 (add binary32 lo lo) lo) (add binary32 (add binary32 a b) c) (add binary32 (add binary32 hi hi) hi) lo d hi L3 H3 L H
-    (in-add binary32 (add binary32 lo lo) (add binary32 a b) (add binary32 hi hi) lo c hi L2 H2 L H
-    (in-add binary32 lo a hi lo b hi L H L H p q) r) s)
-  where
-    four-above : T (positive four32)
-    four-above = unfold ofBits in tt
-
--- ---- Normal
-two-in : Between two32 two32 two32
-unfolding ofBits le
-two-in = record { low = tt; high = tt }
-
+-- ---- Normal: p*2 - 1 lies in -1 to 1, and (mean + 1) / 2 in 0 to 1
 zero-two : Between zero32 two32 two32
 unfolding ofBits le
 zero-two = record { low = tt; high = tt }
@@ -139,14 +120,6 @@ spread-in p b =
     (in-sub binary32 (mul binary32 zero32 zero32) (mul binary32 p two32) (mul binary32 one32 two32) one32 one32 one32 tt tt tt tt
     (in-mul binary32 zero32 p one32 zero32 two32 two32 tt tt tt tt refl refl b zero-two) one-in)
 
-n-low : meanOf minus1 minus1 minus1 minus1 ≡ minus1
-unfolding ofBits add div neg
-n-low = refl
-
-n-high : meanOf one32 one32 one32 one32 ≡ one32
-unfolding ofBits add div
-n-high = refl
-
 b-low : backOf minus1 ≡ zero32
 unfolding ofBits add div neg
 b-low = refl
@@ -163,9 +136,9 @@ pub normal-in : (a b c d : Float) → Between zero32 a one32 → Between zero32 
 unfolding ofBits add neg
 normal-in a b c d p q r s =
     back-in (meanOf (spreadOf a) (spreadOf b) (spreadOf c) (spreadOf d))
-    (ends n-low n-high (mean-from minus1 one32 (spreadOf a) (spreadOf b) (spreadOf c) (spreadOf d) tt tt tt tt tt tt tt tt (spread-in a p) (spread-in b q) (spread-in c r) (spread-in d s)))
+    (ends n-low m-high (mean-from minus1 one32 (spreadOf a) (spreadOf b) (spreadOf c) (spreadOf d) tt tt tt tt tt tt tt tt (spread-in a p) (spread-in b q) (spread-in c r) (spread-in d s)))
 
--- ---- a bilinear weight: 1 - fx, and a product of two
+-- ---- a weight: 1 - weight, and the product of two
 w-low : sub binary32 one32 one32 ≡ zero32
 unfolding ofBits sub
 w-low = refl
@@ -174,7 +147,7 @@ w-high : sub binary32 one32 zero32 ≡ one32
 unfolding ofBits sub
 w-high = refl
 
-pub rest-in : (x : Float) → Between zero32 x one32 → Between zero32 (sub binary32 one32 x) one32
+pub rest-in : (x : Float) → Between zero32 x one32 → Between zero32 (restOf x) one32
 unfolding ofBits
 rest-in x b = ends w-low w-high (in-sub binary32 one32 one32 one32 zero32 x one32 tt tt tt tt one-in b)
 

@@ -13,11 +13,12 @@ unfoldable pub digitsOf : ℕ → ℕ → ℕ → List ℕ
 digitsOf base zero n = []
 digitsOf base (suc k) n = digitsOf base k (n / base) ++ (digitOf (n % base) ∷ [])
 
--- how many decimal digits n has. The first argument bounds the divisions
+-- how often n can be divided by ten before it is below ten, and one more. The first argument bounds the divisions
 unfoldable pub placesIn : ℕ → ℕ → ℕ
 placesIn zero n = 1
 placesIn (suc k) n = cond (ltb n 10) 1 (suc (placesIn k (n / 10)))
 
+-- how many decimal digits n has
 unfoldable pub placesOf : ℕ → ℕ
 placesOf n = placesIn n n
 

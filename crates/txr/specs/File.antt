@@ -30,6 +30,7 @@ widthIn b = wordAt b 6
 abbrev pub heightIn : List ℕ → ℕ
 heightIn b = wordAt b 8
 
+-- the three of them together
 abbrev pub headerIn : List ℕ → Header
 headerIn b = record { kind = kindIn b; width = widthIn b; height = heightIn b }
 
@@ -43,6 +44,7 @@ texelIn b i =
     let at = 10 + 4 * i in
     rgba (getD b at 0) (getD b (at + 1) 0) (getD b (at + 2) 0) (getD b (at + 3) 0)
 
+-- level 0
 unfoldable pub levelIn : List ℕ → List ℕ
 levelIn b = tab (sizeIn b) (texelIn b)
 

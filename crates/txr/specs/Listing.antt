@@ -13,6 +13,7 @@ use Rattle.txr.specs.Digits.{decimalOf, hexOf}
 unfoldable pub fieldOf : ℕ → List ℕ
 fieldOf n = decimalOf n ++ (32 ∷ [])
 
+-- what ends a line
 abbrev pub newline : List ℕ
 newline = 10 ∷ []
 

@@ -44,6 +44,9 @@ module _ (c : tie.After-floor) where
   next : toZ w64 (ofZ w64 (t-of +ℤ pos 1)) ≡ t-of +ℤ pos 1
   next = toZ-ofZ w64 (t-of +ℤ pos 1) next-fits
 
+cast-x : tie.Need-cast-x
+cast-x c = search needs
+
 int-to-float-x : tie.Need-int-to-float-x
 int-to-float-x c = side-float _ (c .before .pre .2)
 
@@ -79,6 +82,7 @@ pub axis-spec : {M : Type 1} → statement M
 axis-spec =
     tie.close
     (tie.spec
+    cast-x
     int-to-float-x
     floor-requires
     wrap-requires

@@ -10,6 +10,9 @@ use Rattle.places.proofs.Spans.{coordinate-in, nearest-floored}
 use Rattle.places.proofs.axis.nearest_texel.Statement.{statement}
 use Rattle.places.proofs.axis.nearest_texel.Tie as tie
 
+cast-floor : tie.Need-cast-floor
+cast-floor c = search needs
+
 int-to-float-floor : tie.Need-int-to-float-floor
 int-to-float-floor c = side-float _ (c .before .pre .2)
 
@@ -25,4 +28,4 @@ returns c =
     rw (toZ-ofZ w64 (c .floor .result) (search needs), e) (refl, omega arith)
 
 pub nearest-texel-spec : {M : Type 1} → statement M
-nearest-texel-spec = tie.close (tie.spec int-to-float-floor floor-requires returns)
+nearest-texel-spec = tie.close (tie.spec cast-floor int-to-float-floor floor-requires returns)

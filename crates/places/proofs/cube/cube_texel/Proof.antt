@@ -10,6 +10,9 @@ use Rattle.places.proofs.cube.cube_texel.Tie as tie
 sub-round-even : tie.Need-sub-round-even
 sub-round-even c = search needs
 
+cast-round-even : tie.Need-cast-round-even
+cast-round-even c = search needs
+
 int-to-float-round-even : tie.Need-int-to-float-round-even
 int-to-float-round-even c = side-float _ (let p = c .before .pre in omega arith)
 
@@ -25,4 +28,5 @@ returns c =
 
 pub cube-texel-spec : {M : Type 1} → statement M
 cube-texel-spec =
-    tie.close (tie.spec sub-round-even int-to-float-round-even round-even-requires returns)
+    tie.close (tie.spec sub-round-even cast-round-even
+    int-to-float-round-even round-even-requires returns)

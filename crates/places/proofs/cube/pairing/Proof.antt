@@ -29,6 +29,9 @@ module _ (c : tie.After-floor) where
   facts : Known (c .before .hold .result) (s-of .args .top) l-of
   facts = known (s-of .args .fraction) (c .before .hold .result) (s-of .args .top) l-of (s-of .pre .0) (s-of .pre .1) (c .before .hold .ensures) (c .floor .ensures)
 
+cast-hold : tie.Need-cast-hold
+cast-hold c = search needs
+
 int-to-float-hold : tie.Need-int-to-float-hold
 int-to-float-hold c = side-float _ (omega arith)
 
@@ -49,8 +52,8 @@ add-lower c = let k = facts c in rw (same c) (omega (arith, k .most, s-of c .pre
 lower-requires : tie.Need-lower-requires
 lower-requires c κs = search needs
 
-int-to-float-t6 : tie.Need-int-to-float-t6
-int-to-float-t6 c = let d = c .before .before in rw (same d) (facts d .small)
+int-to-float-t7 : tie.Need-int-to-float-t7
+int-to-float-t7 c = let d = c .before .before in rw (same d) (facts d .small)
 
 returns : tie.Need-returns
 returns c =
@@ -69,11 +72,12 @@ pub pairing-spec : {M : Type 1} → statement M
 pairing-spec =
     tie.close
     (tie.spec
+    cast-hold
     int-to-float-hold
     hold-requires
     floor-requires
     cast-low
     add-lower
     lower-requires
-    int-to-float-t6
+    int-to-float-t7
     returns)

@@ -1,0 +1,141 @@
+// The nearest lookup: the texel at floor(u * width), floor(v * height), wrapped into the level.
+use crate::mip::mip_level_of;
+use crate::modes::mode_of;
+use crate::number::pixel_number;
+use crate::number::place_number;
+use crate::number::value_number;
+use crate::pixel::opacity_at;
+use crate::pixel::rgb_at;
+use crate::pixel::rgb_lanes;
+use crate::plane::plane;
+use crate::refusals::sample4_refusal;
+use places::axis::nearest_texel;
+use places::place::place;
+use places::wrap::wrap;
+use rules::Alpha;
+use rules::Colour;
+use rules::Lanes;
+use rules::Mode;
+use rules::Pixel;
+use rules::Place;
+use rules::Plane;
+use rules::Sampler;
+use rules::Value;
+ghost use mathlib.Core.Path.{_≡_};
+ghost use mathlib.Core.Bool.{true};
+ghost use Rattle.rules.specs.Refusals.{coordinateTaken};
+ghost use Rattle.rules.specs.Places.{nearestPlace, nearestRgb, nearestAlpha};
+ghost use Rattle.rules.specs.Answers.{sample4RgbAnswer, sample4AlphaAnswer};
+ghost use Rattle.lookups.specs.Held.{Sized, Held};
+
+// The place of the nearest texel.
+fn nearest_place(p: Plane, s: Mode, t: Mode, u: f32, v: f32) -> Place
+    requires { ⌜ Sized p × (coordinateTaken u ≡ true) × (coordinateTaken v ≡ true) ⌝ }
+    ensures { λ r. ⌜ r ≡ nearestPlace p s t u v ⌝ }
+{
+    let x = wrap(s, nearest_texel(u, p.width), p.width);
+    let y = wrap(t, nearest_texel(v, p.height), p.height);
+    place(p, 0, x, y)
+}
+
+// One lane's colour.
+pub fn nearest_rgb(texels: &[u32], p: Plane, s: Mode, t: Mode, u: f32, v: f32) -> Pixel
+    requires { ⌜ Held (now texels) p × (coordinateTaken u ≡ true) × (coordinateTaken v ≡ true) ⌝ }
+    ensures { λ r. ⌜ r ≡ nearestRgb (now (texels .entry)) p s t u v ⌝ }
+{
+    let found = nearest_place(p, s, t, u, v);
+    let Place::At(i) = found else {
+        return Pixel::Refused(place_number(found));
+    };
+    Pixel::Of(rgb_at(texels, i))
+}
+
+// One lane's alpha.
+pub fn nearest_alpha(texels: &[u32], p: Plane, s: Mode, t: Mode, u: f32, v: f32) -> Value
+    requires { ⌜ Held (now texels) p × (coordinateTaken u ≡ true) × (coordinateTaken v ≡ true) ⌝ }
+    ensures { λ r. ⌜ r ≡ nearestAlpha (now (texels .entry)) p s t u v ⌝ }
+{
+    let found = nearest_place(p, s, t, u, v);
+    let Place::At(i) = found else {
+        return Value::Refused(place_number(found));
+    };
+    Value::Of(opacity_at(texels, i))
+}
+
+// The colours of four lanes, each that of the nearest texel, at the level that the steps ask for.
+pub fn sample4_rgb(
+    kind: u32,
+    width: u32,
+    height: u32,
+    texels: &[u32],
+    sampler: Sampler,
+    u: Lanes,
+    v: Lanes,
+    steps: Lanes,
+) -> Colour
+    ensures answer { λ r. ⌜ r ≡ sample4RgbAnswer kind width height (now (texels .entry)) sampler u v steps ⌝ }
+{
+    let refusal = sample4_refusal(kind, width, height, texels.len(), sampler, u, v, steps);
+    if refusal != 0 {
+        return Colour::Refused(refusal);
+    }
+    let p = plane(kind, width, height, mip_level_of(width, height, steps));
+    let s = mode_of(sampler.wrap_s);
+    let t = mode_of(sampler.wrap_t);
+    let lane_a = nearest_rgb(texels, p, s, t, u.a, v.a);
+    let Pixel::Of(a) = lane_a else {
+        return Colour::Refused(pixel_number(lane_a));
+    };
+    let lane_b = nearest_rgb(texels, p, s, t, u.b, v.b);
+    let Pixel::Of(b) = lane_b else {
+        return Colour::Refused(pixel_number(lane_b));
+    };
+    let lane_c = nearest_rgb(texels, p, s, t, u.c, v.c);
+    let Pixel::Of(c) = lane_c else {
+        return Colour::Refused(pixel_number(lane_c));
+    };
+    let lane_d = nearest_rgb(texels, p, s, t, u.d, v.d);
+    let Pixel::Of(d) = lane_d else {
+        return Colour::Refused(pixel_number(lane_d));
+    };
+    Colour::Rgb(rgb_lanes(a, b, c, d))
+}
+
+// The alphas of four lanes, each that of the nearest texel, at the level that the steps ask for.
+pub fn sample4_alpha(
+    kind: u32,
+    width: u32,
+    height: u32,
+    texels: &[u32],
+    sampler: Sampler,
+    u: Lanes,
+    v: Lanes,
+    steps: Lanes,
+) -> Alpha
+    ensures answer { λ r. ⌜ r ≡ sample4AlphaAnswer kind width height (now (texels .entry)) sampler u v steps ⌝ }
+{
+    let refusal = sample4_refusal(kind, width, height, texels.len(), sampler, u, v, steps);
+    if refusal != 0 {
+        return Alpha::Refused(refusal);
+    }
+    let p = plane(kind, width, height, mip_level_of(width, height, steps));
+    let s = mode_of(sampler.wrap_s);
+    let t = mode_of(sampler.wrap_t);
+    let lane_a = nearest_alpha(texels, p, s, t, u.a, v.a);
+    let Value::Of(a) = lane_a else {
+        return Alpha::Refused(value_number(lane_a));
+    };
+    let lane_b = nearest_alpha(texels, p, s, t, u.b, v.b);
+    let Value::Of(b) = lane_b else {
+        return Alpha::Refused(value_number(lane_b));
+    };
+    let lane_c = nearest_alpha(texels, p, s, t, u.c, v.c);
+    let Value::Of(c) = lane_c else {
+        return Alpha::Refused(value_number(lane_c));
+    };
+    let lane_d = nearest_alpha(texels, p, s, t, u.d, v.d);
+    let Value::Of(d) = lane_d else {
+        return Alpha::Refused(value_number(lane_d));
+    };
+    Alpha::Of(Lanes { a, b, c, d })
+}

@@ -1,0 +1,149 @@
+// The refusal number of each call, before a texel is read: the numbers that fit its arguments, in their order. One bad lane
+// refuses all four.
+use levels::refusals::chain_refusal;
+use levels::refusals::face_refusal;
+use levels::refusals::level_refusal;
+use levels::refusals::no_cubemap_refusal;
+use levels::refusals::only_cubemap_refusal;
+use levels::refusals::or_else;
+use levels::refusals::sides_refusal;
+use places::refusals::coordinates_refusal;
+use places::refusals::directions_refusal;
+use places::refusals::finite_refusal;
+use places::refusals::sampler_refusal;
+use rules::Directions;
+use rules::Lanes;
+use rules::Sampler;
+use rules::Wholes;
+ghost use mathlib.Core.Path.{_≡_};
+ghost use Rattle.rules.specs.Refusals.{_orElse_, samplerRefusal, levelRefusal, coordinatesRefusal, facesRefusal, mipLevelRefusal, sample4Refusal, bilinearRgbRefusal, bilinearAlphaRefusal, cubemapRefusal, trilinearRefusal};
+
+// compute_mip_level: 2, 5.
+pub fn mip_level_refusal(width: u32, height: u32, steps: Lanes) -> u32
+    ensures { λ r. ⌜ r ≡ mipLevelRefusal width height steps ⌝ }
+{
+    or_else(sides_refusal(width, height), finite_refusal(steps))
+}
+
+// sample4_rgb, sample4_alpha: 1, 2, 3, 8, 4, 5.
+pub fn sample4_refusal(
+    kind: u32,
+    width: u32,
+    height: u32,
+    n: usize,
+    sampler: Sampler,
+    u: Lanes,
+    v: Lanes,
+    steps: Lanes,
+) -> u32
+    ensures { λ r. ⌜ r ≡ sample4Refusal kind width height n sampler u v steps ⌝ }
+{
+    or_else(
+        chain_refusal(kind, width, height, n),
+        or_else(
+            no_cubemap_refusal(kind),
+            or_else(
+                sampler_refusal(sampler),
+                or_else(coordinates_refusal(u, v), finite_refusal(steps)),
+            ),
+        ),
+    )
+}
+
+// 8: one of four faces above 5 for a cubemap, or not 0 for another kind.
+fn faces_refusal(kind: u32, faces: Wholes) -> u32
+    ensures { λ r. ⌜ r ≡ facesRefusal kind faces ⌝ }
+{
+    or_else(
+        face_refusal(kind, faces.a),
+        or_else(
+            face_refusal(kind, faces.b),
+            or_else(face_refusal(kind, faces.c), face_refusal(kind, faces.d)),
+        ),
+    )
+}
+
+// The numbers of a bilinear lookup that stand behind its 8: 4, 6, 5.
+fn blended_refusal(width: u32, height: u32, sampler: Sampler, u: Lanes, v: Lanes, level: u32) -> u32
+    ensures { λ r. ⌜ r ≡ (samplerRefusal sampler orElse levelRefusal width height level orElse coordinatesRefusal u v) ⌝ }
+{
+    or_else(
+        sampler_refusal(sampler),
+        or_else(
+            level_refusal(width, height, level),
+            coordinates_refusal(u, v),
+        ),
+    )
+}
+
+// sample_bilinear_rgb: 1, 2, 3, 8, 4, 6, 5.
+pub fn bilinear_rgb_refusal(
+    kind: u32,
+    width: u32,
+    height: u32,
+    n: usize,
+    sampler: Sampler,
+    u: Lanes,
+    v: Lanes,
+    level: u32,
+    faces: Wholes,
+) -> u32
+    ensures { λ r. ⌜ r ≡ bilinearRgbRefusal kind width height n sampler u v level faces ⌝ }
+{
+    or_else(
+        chain_refusal(kind, width, height, n),
+        or_else(
+            faces_refusal(kind, faces),
+            blended_refusal(width, height, sampler, u, v, level),
+        ),
+    )
+}
+
+// sample_bilinear_alpha: 1, 2, 3, 8, 4, 6, 5.
+pub fn bilinear_alpha_refusal(
+    kind: u32,
+    width: u32,
+    height: u32,
+    n: usize,
+    sampler: Sampler,
+    u: Lanes,
+    v: Lanes,
+    level: u32,
+) -> u32
+    ensures { λ r. ⌜ r ≡ bilinearAlphaRefusal kind width height n sampler u v level ⌝ }
+{
+    or_else(
+        chain_refusal(kind, width, height, n),
+        or_else(
+            no_cubemap_refusal(kind),
+            blended_refusal(width, height, sampler, u, v, level),
+        ),
+    )
+}
+
+// sample_cubemap_rgb: 1, 2, 3, 8, 7.
+pub fn cubemap_refusal(kind: u32, width: u32, height: u32, n: usize, directions: Directions) -> u32
+    ensures { λ r. ⌜ r ≡ cubemapRefusal kind width height n directions ⌝ }
+{
+    or_else(
+        chain_refusal(kind, width, height, n),
+        or_else(only_cubemap_refusal(kind), directions_refusal(directions)),
+    )
+}
+
+// sample_cubemap_trilinear_rgb: 1, 2, 3, 8, 7, 5.
+pub fn trilinear_refusal(
+    kind: u32,
+    width: u32,
+    height: u32,
+    n: usize,
+    directions: Directions,
+    levels: Lanes,
+) -> u32
+    ensures { λ r. ⌜ r ≡ trilinearRefusal kind width height n directions levels ⌝ }
+{
+    or_else(
+        cubemap_refusal(kind, width, height, n, directions),
+        finite_refusal(levels),
+    )
+}
