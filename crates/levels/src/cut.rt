@@ -8,7 +8,7 @@ use reduce::row::put;
 use rules::Filled;
 use rules::Pair;
 ghost use mathlib.Core.Path.{_≡_};
-ghost use Prim.Native.Nat.{_+_, _*_, _<_, _≤_};
+ghost use Prim.Native.Nat.{_+_, _*_, _≤_};
 ghost use lib.ListN.{length};
 ghost use Rattle.rules.specs.Cuts.{aligned};
 ghost use Rattle.rules.specs.Refusals.{cutRefusal, cutCallRefusal};
