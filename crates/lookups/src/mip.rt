@@ -1,9 +1,9 @@
 // The level that four steps ask for.
 use crate::refusals::mip_level_refusal;
+use levels::sizes::top_level;
 use places::level::mip_level;
 use rules::Lanes;
 use rules::Level;
-use levels::sizes::top_level;
 ghost use mathlib.Core.Path.{_≡_};
 ghost use Prim.Native.Nat.{_≤_};
 ghost use Rattle.rules.specs.Footprint.{mipLevelOf};

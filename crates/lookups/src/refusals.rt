@@ -1,5 +1,12 @@
 // The refusal number of each call, before a texel is read: the numbers that fit its arguments, in their order. One bad lane
 // refuses all four.
+use levels::refusals::chain_refusal;
+use levels::refusals::face_refusal;
+use levels::refusals::level_refusal;
+use levels::refusals::no_cubemap_refusal;
+use levels::refusals::only_cubemap_refusal;
+use levels::refusals::or_else;
+use levels::refusals::sides_refusal;
 use places::refusals::coordinates_refusal;
 use places::refusals::directions_refusal;
 use places::refusals::finite_refusal;
@@ -8,13 +15,6 @@ use rules::Directions;
 use rules::Lanes;
 use rules::Sampler;
 use rules::Wholes;
-use levels::refusals::chain_refusal;
-use levels::refusals::face_refusal;
-use levels::refusals::level_refusal;
-use levels::refusals::no_cubemap_refusal;
-use levels::refusals::only_cubemap_refusal;
-use levels::refusals::or_else;
-use levels::refusals::sides_refusal;
 ghost use mathlib.Core.Path.{_≡_};
 ghost use Rattle.rules.specs.Refusals.{_orElse_, samplerRefusal, levelRefusal, coordinatesRefusal, facesRefusal, mipLevelRefusal, sample4Refusal, bilinearRgbRefusal, bilinearAlphaRefusal, cubemapRefusal, trilinearRefusal};
 
