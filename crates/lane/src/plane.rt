@@ -30,5 +30,6 @@ pub fn lowered(width: u32, height: u32, level: u32) -> Plane
     requires { ⌜ (1 ≤ width) × (width ≤ 4096) × (height ≤ 4096) ⌝ }
     ensures { λ r. ⌜ r ≡ planeOf cubemap width height (min level (top width height)) ⌝ }
 {
-    plane(3, width, height, smaller(level, top_level(width, height)))
+    let top = top_level(width, height);
+    plane(3, width, height, smaller(level, top))
 }
