@@ -1,91 +1,24 @@
--- A level of a chain that the texels hold lies within them, and so does every place of it: face f, row y and column x are the
--- digits of the place, each below its own bound. Assumes nothing.
-use mathlib.Core.Path.{_≡_, refl, subst}
-use mathlib.Core.Bool.{Bool, true, false, cond, _&&_}
+-- What a call knows once it refuses nothing: the level that the steps ask for is one of the picture's, and its texels are held.
+-- Assumes nothing.
+use mathlib.Core.Path.{_≡_, subst}
+use mathlib.Core.Bool.{Bool, true, false, cond}
 use mathlib.Core.List.{List}
-use Prim.Native.Nat.{ℕ, zero, suc, _+_, _*_, _^_, _≤_, _<_, min}
-use native.Mathlib.Nat.{min-le-right}
+use Prim.Native.Nat.{ℕ, zero, suc, _^_, _≤_}
 use native.Mathlib.Omega.{arith}
-use borrow.Author.Tests.{ltb-true}
-use lib.Arith.{digits-lt}
-use lib.Dec.{ltb}
 use lib.ListN.{length}
 use lib.Ieee.{Float, le}
 use Rattle.rules.specs.declared.Lanes.{Lanes}
 use Rattle.rules.specs.declared.Directions.{Directions}
-use Rattle.rules.specs.declared.Mode.{Mode}
 use Rattle.rules.specs.declared.Plane.{Plane}
-use Rattle.rules.specs.declared.Corners.{Corners}
-use Rattle.rules.specs.declared.Square.the-variants.{At as AtSquare, Refused as NoSquare}
-use Rattle.rules.specs.declared.Spot.{Spot}
-use Rattle.rules.specs.declared.Place.{Place}
-use Rattle.rules.specs.declared.Place.the-variants.{At, Refused}
-use Rattle.rules.specs.Kinds.{cubemap, facesOf}
-use Rattle.rules.specs.Sizes.{sideAt, top, sizeAt, start}
+use Rattle.rules.specs.Kinds.{cubemap}
+use Rattle.rules.specs.Sizes.{top}
 use Rattle.rules.specs.Floats.{float}
 use Rattle.rules.specs.Footprint.{footprintOf, fourOf, mipLevelOf}
-use Rattle.rules.specs.Wrapping.{wrapOf}
-use Rattle.rules.specs.Places.{planeOf, placeOf, nearestOf, nearestPlace}
-use Rattle.rules.specs.Bilinear.{spanOf, axisOf, thenSquare, cornersOf, squareAt}
-use Rattle.rules.specs.Cubemap.{cubeTexel, cubePlace}
-use Rattle.rules.proofs.Sides.{side-pos, side-le}
-use Rattle.rules.proofs.Bounds.{faces-most, level-end, taken-count}
-use Rattle.rules.proofs.Refusing.{and-both, Taken, Chained}
+use Rattle.rules.specs.Places.{planeOf}
+use Rattle.rules.proofs.Refusing.{Chained}
 use Rattle.rules.proofs.RefusingLookups.{Cubed}
-use Rattle.lookups.specs.Held.{Sized, Held, Within}
-
--- a level of a picture that is taken
-pub plane-sized : {kind w h m : ℕ} → Taken kind w h → m ≤ top w h → Sized (planeOf kind w h m)
-unfolding planeOf
-plane-sized {kind} {w} {h} {m} t le =
-    record {
-      most-start = omega (arith, level-end (facesOf kind) w h m le, taken-count t);
-      most-faces = faces-most kind;
-      some-w = side-pos m w;
-      most-w = omega (arith, side-le m w (t .some-w), t .most-w);
-      some-h = side-pos m h;
-      most-h = omega (arith, side-le m h (t .some-h), t .most-h);
-    }
-
--- a level of a chain that the texels hold
-pub plane-held : {kind w h m : ℕ} {p : Plane} (l : List ℕ) → p ≡ planeOf kind w h m → Chained kind w h (length l) → m ≤ top w h → Held l p
-unfolding planeOf sizeAt
-plane-held {kind} {w} {h} {m} l e c le =
-    rw e
-    (record {
-      sized = plane-sized (c .taken) le;
-      room = omega (arith, level-end (facesOf kind) w h m le, c .room);
-    })
-
--- a cubemap's level, lowered to the top level
-pub lowered-held : {w h : ℕ} {p : Plane} (l : List ℕ) (m : ℕ) → p ≡ planeOf cubemap w h (min m (top w h)) → Chained cubemap w h (length l) → Held l p
-lowered-held {w} {h} l m e c = plane-held l e c (min-le-right m (top w h))
-
--- a place that is given is inside its level
-given : (test : Bool) {i j : ℕ} → cond test (At j) (Refused 9) ≡ At i → (test ≡ true) × (j ≡ i)
-given true e = (refl, cc)
-given false {i} {j} e = let z : _≡_ {A = ℕ} 0 1 = cc in absurd (omega arith)
-
-no-square : (n : ℕ) (c : Corners) → NoSquare n ≡ AtSquare c → ⊥
-no-square n c e = let z : _≡_ {A = ℕ} 0 1 = cc in omega arith
-
--- so it is one of the texels
-pub place-below : {l : List ℕ} {p : Plane} (f x y : ℕ) {i : ℕ} → Held l p → placeOf p f x y ≡ At i → i < length l
-unfolding placeOf
-place-below {l} {p} f x y held e =
-    let g = given (ltb f (p .faces) && (ltb x (p .width) && ltb y (p .height))) e in
-    let b = and-both _ _ (g .0) in
-    let d = and-both _ _ (b .1) in
-    let row = digits-lt (ltb-true f (p .faces) (b .0)) (ltb-true y (p .height) (d .1)) in
-    omega (arith, held .room, g .1, digits-lt row (ltb-true x (p .width) (d .0)))
-
-pub nearest-below : {l : List ℕ} {p : Plane} (s t : Mode) (u v : Float) {i : ℕ} → Held l p → nearestPlace p s t u v ≡ At i → i < length l
-unfolding nearestPlace
-nearest-below {l} {p} s t u v held e = place-below 0 (wrapOf s (nearestOf u (p .width)) (p .width)) (wrapOf t (nearestOf v (p .height)) (p .height)) held e
-
-pub cube-below : {l : List ℕ} {p : Plane} (s : Spot) {i : ℕ} → Held l p → cubePlace p s ≡ At i → i < length l
-unfolding cubePlace
-cube-below {l} {p} s held e = place-below (s .face) (cubeTexel (s .u) (p .width)) (cubeTexel (s .v) (p .height)) held e
+use Rattle.lane.specs.Held.{Held}
+use Rattle.lane.proofs.Holding.{plane-held}
 
 -- the level that steps ask for is one of the picture's
 four-most : (n : ℕ) (f : Float) → fourOf n f ≤ n
@@ -103,28 +36,6 @@ mip-below w h steps = four-most (top w h) (footprintOf w h steps)
 
 pub mip-held : {kind w h m : ℕ} {p : Plane} (l : List ℕ) (steps : Lanes) → p ≡ planeOf kind w h m → m ≡ mipLevelOf w h steps → Chained kind w h (length l) → Held l p
 mip-held {w = w} {h = h} l steps e k c = plane-held l e c (rw k (mip-below w h steps))
-
--- the four places of a square that is given
-four-within : {l : List ℕ} (q00 q10 q01 q11 : Place) (fx fy : Float) {c : Corners} → ((i : ℕ) → q00 ≡ At i → i < length l) → ((i : ℕ) → q10 ≡ At i → i < length l) → ((i : ℕ) → q01 ≡ At i → i < length l) → ((i : ℕ) → q11 ≡ At i → i < length l) → thenSquare q00 (λ p00. thenSquare q10 (λ p10. thenSquare q01 (λ p01. thenSquare q11 (λ p11. AtSquare (record { p00 = p00; p10 = p10; p01 = p01; p11 = p11; fx = fx; fy = fy }))))) ≡ AtSquare c → Within l c
-four-within {l} (At i) (At j) (At k) (At m) fx fy {c} a b d e given =
-    subst (λ (x : Corners). Within l x) (let same : record { p00 = i; p10 = j; p01 = k; p11 = m; fx = fx; fy = fy } ≡ c = cc in same)
-    (record { in00 = a i refl; in10 = b j refl; in01 = d k refl; in11 = e m refl })
-four-within (Refused n) q10 q01 q11 fx fy {c} a b d e given = absurd (no-square n c given)
-four-within (At i) (Refused n) q01 q11 fx fy {c} a b d e given = absurd (no-square n c given)
-four-within (At i) (At j) (Refused n) q11 fx fy {c} a b d e given = absurd (no-square n c given)
-four-within (At i) (At j) (At k) (Refused n) fx fy {c} a b d e given = absurd (no-square n c given)
-
-pub square-within : {l : List ℕ} {p : Plane} (f : ℕ) (s t : Mode) (u v : Float) {c : Corners} → Held l p → squareAt p f s t u v ≡ AtSquare c → Within l c
-unfolding squareAt cornersOf
-square-within {l} {p} f s t u v held e =
-    let x = axisOf s (spanOf u (p .width)) (p .width) in
-    let y = axisOf t (spanOf v (p .height)) (p .height) in
-    four-within _ _ _ _ _ _
-    (λ i h. place-below f (x .first) (y .first) held h)
-    (λ i h. place-below f (x .second) (y .first) held h)
-    (λ i h. place-below f (x .first) (y .second) held h)
-    (λ i h. place-below f (x .second) (y .second) held h)
-    e
 
 -- the chain of a call that takes cubemaps only
 pub cube-chained : {kind w h n : ℕ} {d : Directions} → Cubed kind w h n d → Chained cubemap w h n

@@ -1,14 +1,10 @@
 // The lookups: the station's samplers, four lanes at a time.
 mod bilinear;
-mod corners;
 mod cubemap;
 mod facing;
 mod mip;
 mod modes;
 mod nearest;
-mod number;
-mod pixel;
-mod plane;
 mod refusals;
 mod trilinear;
 

@@ -22,7 +22,9 @@ ghost use Rattle.rules.specs.Refusals.{_orElse_, samplerRefusal, levelRefusal, 
 pub fn mip_level_refusal(width: u32, height: u32, steps: Lanes) -> u32
     ensures { λ r. ⌜ r ≡ mipLevelRefusal width height steps ⌝ }
 {
-    or_else(sides_refusal(width, height), finite_refusal(steps))
+    let sides = sides_refusal(width, height);
+    let numbers = finite_refusal(steps);
+    or_else(sides, numbers)
 }
 
 // sample4_rgb, sample4_alpha: 1, 2, 3, 8, 4, 5.
@@ -38,15 +40,14 @@ pub fn sample4_refusal(
 ) -> u32
     ensures { λ r. ⌜ r ≡ sample4Refusal kind width height n sampler u v steps ⌝ }
 {
+    let chain = chain_refusal(kind, width, height, n);
+    let cube = no_cubemap_refusal(kind);
+    let codes = sampler_refusal(sampler);
+    let coordinates = coordinates_refusal(u, v);
+    let numbers = finite_refusal(steps);
     or_else(
-        chain_refusal(kind, width, height, n),
-        or_else(
-            no_cubemap_refusal(kind),
-            or_else(
-                sampler_refusal(sampler),
-                or_else(coordinates_refusal(u, v), finite_refusal(steps)),
-            ),
-        ),
+        chain,
+        or_else(cube, or_else(codes, or_else(coordinates, numbers))),
     )
 }
 
@@ -54,26 +55,21 @@ pub fn sample4_refusal(
 fn faces_refusal(kind: u32, faces: Wholes) -> u32
     ensures { λ r. ⌜ r ≡ facesRefusal kind faces ⌝ }
 {
-    or_else(
-        face_refusal(kind, faces.a),
-        or_else(
-            face_refusal(kind, faces.b),
-            or_else(face_refusal(kind, faces.c), face_refusal(kind, faces.d)),
-        ),
-    )
+    let a = face_refusal(kind, faces.a);
+    let b = face_refusal(kind, faces.b);
+    let c = face_refusal(kind, faces.c);
+    let d = face_refusal(kind, faces.d);
+    or_else(a, or_else(b, or_else(c, d)))
 }
 
 // The numbers of a bilinear lookup that stand behind its 8: 4, 6, 5.
 fn blended_refusal(width: u32, height: u32, sampler: Sampler, u: Lanes, v: Lanes, level: u32) -> u32
     ensures { λ r. ⌜ r ≡ (samplerRefusal sampler orElse levelRefusal width height level orElse coordinatesRefusal u v) ⌝ }
 {
-    or_else(
-        sampler_refusal(sampler),
-        or_else(
-            level_refusal(width, height, level),
-            coordinates_refusal(u, v),
-        ),
-    )
+    let codes = sampler_refusal(sampler);
+    let above = level_refusal(width, height, level);
+    let coordinates = coordinates_refusal(u, v);
+    or_else(codes, or_else(above, coordinates))
 }
 
 // sample_bilinear_rgb: 1, 2, 3, 8, 4, 6, 5.
@@ -90,13 +86,10 @@ pub fn bilinear_rgb_refusal(
 ) -> u32
     ensures { λ r. ⌜ r ≡ bilinearRgbRefusal kind width height n sampler u v level faces ⌝ }
 {
-    or_else(
-        chain_refusal(kind, width, height, n),
-        or_else(
-            faces_refusal(kind, faces),
-            blended_refusal(width, height, sampler, u, v, level),
-        ),
-    )
+    let chain = chain_refusal(kind, width, height, n);
+    let face = faces_refusal(kind, faces);
+    let rest = blended_refusal(width, height, sampler, u, v, level);
+    or_else(chain, or_else(face, rest))
 }
 
 // sample_bilinear_alpha: 1, 2, 3, 8, 4, 6, 5.
@@ -112,23 +105,20 @@ pub fn bilinear_alpha_refusal(
 ) -> u32
     ensures { λ r. ⌜ r ≡ bilinearAlphaRefusal kind width height n sampler u v level ⌝ }
 {
-    or_else(
-        chain_refusal(kind, width, height, n),
-        or_else(
-            no_cubemap_refusal(kind),
-            blended_refusal(width, height, sampler, u, v, level),
-        ),
-    )
+    let chain = chain_refusal(kind, width, height, n);
+    let cube = no_cubemap_refusal(kind);
+    let rest = blended_refusal(width, height, sampler, u, v, level);
+    or_else(chain, or_else(cube, rest))
 }
 
 // sample_cubemap_rgb: 1, 2, 3, 8, 7.
 pub fn cubemap_refusal(kind: u32, width: u32, height: u32, n: usize, directions: Directions) -> u32
     ensures { λ r. ⌜ r ≡ cubemapRefusal kind width height n directions ⌝ }
 {
-    or_else(
-        chain_refusal(kind, width, height, n),
-        or_else(only_cubemap_refusal(kind), directions_refusal(directions)),
-    )
+    let chain = chain_refusal(kind, width, height, n);
+    let flat = only_cubemap_refusal(kind);
+    let direction = directions_refusal(directions);
+    or_else(chain, or_else(flat, direction))
 }
 
 // sample_cubemap_trilinear_rgb: 1, 2, 3, 8, 7, 5.
@@ -142,8 +132,7 @@ pub fn trilinear_refusal(
 ) -> u32
     ensures { λ r. ⌜ r ≡ trilinearRefusal kind width height n directions levels ⌝ }
 {
-    or_else(
-        cubemap_refusal(kind, width, height, n, directions),
-        finite_refusal(levels),
-    )
+    let cube = cubemap_refusal(kind, width, height, n, directions);
+    let numbers = finite_refusal(levels);
+    or_else(cube, numbers)
 }

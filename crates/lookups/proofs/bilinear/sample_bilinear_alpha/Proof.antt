@@ -12,9 +12,10 @@ use Rattle.rules.specs.Bilinear.{bilinearAlpha}
 use Rattle.rules.specs.Answers.{bilinearAlphaAnswer}
 use Rattle.rules.proofs.Bounds.{taken-top}
 use Rattle.rules.proofs.RefusingLookups.{BilinearAlpha, bilinear-alpha-facts}
-use Rattle.lookups.specs.Held.{Held}
-use Rattle.lookups.proofs.Holding.{plane-held}
-use Rattle.lookups.proofs.Passing.{refuses, gives, value-passed}
+use Rattle.lane.specs.Held.{Held}
+use Rattle.lane.proofs.Holding.{plane-held}
+use Rattle.lane.proofs.Passing.{value-passed}
+use Rattle.lookups.proofs.Passing.{refuses, gives}
 use Rattle.lookups.proofs.bilinear.sample_bilinear_alpha.Statement.{statement}
 use Rattle.lookups.proofs.bilinear.sample_bilinear_alpha.Tie as tie
 

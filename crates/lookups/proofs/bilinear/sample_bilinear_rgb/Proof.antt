@@ -14,9 +14,10 @@ use Rattle.rules.specs.Bilinear.{bilinearRgb}
 use Rattle.rules.specs.Answers.{bilinearRgbAnswer}
 use Rattle.rules.proofs.Bounds.{taken-top}
 use Rattle.rules.proofs.RefusingLookups.{BilinearRgb, bilinear-rgb-facts}
-use Rattle.lookups.specs.Held.{Held}
-use Rattle.lookups.proofs.Holding.{plane-held}
-use Rattle.lookups.proofs.Passing.{refuses, gives, pixel-passed}
+use Rattle.lane.specs.Held.{Held}
+use Rattle.lane.proofs.Holding.{plane-held}
+use Rattle.lane.proofs.Passing.{pixel-passed}
+use Rattle.lookups.proofs.Passing.{refuses, gives}
 use Rattle.lookups.proofs.bilinear.sample_bilinear_rgb.Statement.{statement}
 use Rattle.lookups.proofs.bilinear.sample_bilinear_rgb.Tie as tie
 

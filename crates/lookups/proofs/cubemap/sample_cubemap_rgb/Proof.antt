@@ -13,7 +13,8 @@ use Rattle.rules.specs.Cubemap.{cubemapRgb}
 use Rattle.rules.specs.Answers.{cubemapAnswer}
 use Rattle.rules.proofs.RefusingLookups.{Cubed, cubemap-facts}
 use Rattle.lookups.proofs.Holding.{cube-chained}
-use Rattle.lookups.proofs.Passing.{refuses, gives, pixel-passed}
+use Rattle.lane.proofs.Passing.{pixel-passed}
+use Rattle.lookups.proofs.Passing.{refuses, gives}
 use Rattle.lookups.proofs.cubemap.sample_cubemap_rgb.Statement.{statement}
 use Rattle.lookups.proofs.cubemap.sample_cubemap_rgb.Tie as tie
 

@@ -1,5 +1,5 @@
 -- `lookups::mip::compute_mip_level` meets its contract. Assumes nothing.
-use mathlib.Core.Path.{_≡_, sym, ap, _∙_}
+use mathlib.Core.Path.{sym, ap, _∙_}
 use native.Mathlib.Omega.{arith}
 use Rattle.rules.specs.declared.Level.the-variants.{At}
 use Rattle.rules.specs.Answers.{mipLevelAnswer}

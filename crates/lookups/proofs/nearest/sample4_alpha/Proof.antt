@@ -12,9 +12,10 @@ use Rattle.rules.specs.Places.{nearestAlpha}
 use Rattle.rules.specs.Answers.{sample4AlphaAnswer}
 use Rattle.rules.proofs.Bounds.{taken-top}
 use Rattle.rules.proofs.RefusingLookups.{Sampled, sample4-facts}
-use Rattle.lookups.specs.Held.{Held}
+use Rattle.lane.specs.Held.{Held}
 use Rattle.lookups.proofs.Holding.{mip-held, mip-below}
-use Rattle.lookups.proofs.Passing.{refuses, gives, value-passed}
+use Rattle.lane.proofs.Passing.{value-passed}
+use Rattle.lookups.proofs.Passing.{refuses, gives}
 use Rattle.lookups.proofs.nearest.sample4_alpha.Statement.{statement}
 use Rattle.lookups.proofs.nearest.sample4_alpha.Tie as tie
 

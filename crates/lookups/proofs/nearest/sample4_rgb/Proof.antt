@@ -13,9 +13,10 @@ use Rattle.rules.specs.Places.{nearestRgb}
 use Rattle.rules.specs.Answers.{sample4RgbAnswer}
 use Rattle.rules.proofs.Bounds.{taken-top}
 use Rattle.rules.proofs.RefusingLookups.{Sampled, sample4-facts}
-use Rattle.lookups.specs.Held.{Held}
+use Rattle.lane.specs.Held.{Held}
 use Rattle.lookups.proofs.Holding.{mip-held, mip-below}
-use Rattle.lookups.proofs.Passing.{refuses, gives, pixel-passed}
+use Rattle.lane.proofs.Passing.{pixel-passed}
+use Rattle.lookups.proofs.Passing.{refuses, gives}
 use Rattle.lookups.proofs.nearest.sample4_rgb.Statement.{statement}
 use Rattle.lookups.proofs.nearest.sample4_rgb.Tie as tie
 

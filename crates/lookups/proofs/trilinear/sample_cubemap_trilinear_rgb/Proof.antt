@@ -13,7 +13,8 @@ use Rattle.rules.specs.Cubemap.{trilinearRgb}
 use Rattle.rules.specs.Answers.{trilinearAnswer}
 use Rattle.rules.proofs.RefusingLookups.{EachLane, Cubed, trilinear-facts}
 use Rattle.lookups.proofs.Holding.{cube-chained}
-use Rattle.lookups.proofs.Passing.{refuses, gives, pixel-passed}
+use Rattle.lane.proofs.Passing.{pixel-passed}
+use Rattle.lookups.proofs.Passing.{refuses, gives}
 use Rattle.lookups.proofs.trilinear.sample_cubemap_trilinear_rgb.Statement.{statement}
 use Rattle.lookups.proofs.trilinear.sample_cubemap_trilinear_rgb.Tie as tie
 

@@ -1,6 +1,6 @@
 -- `replay::words::bits` is safe: a float that equals itself is no NaN. Assumes nothing.
-use mathlib.Core.Path.{_≡_, sym, subst}
-use mathlib.Core.Bool.{true, not}
+use mathlib.Core.Path.{sym, subst}
+use mathlib.Core.Bool.{not}
 use borrow.Author.Needs.{needs}
 use lib.Dec.{T}
 use lib.Ieee.{Float, nan, inf, fin, eq, isNan}

@@ -1,9 +1,8 @@
 -- The place is that of the view: where the view is given, so are the level's sizes, and the part that they show is the view's.
-use mathlib.Core.Path.{_≡_, sym, _∙_}
+use mathlib.Core.Path.{sym, _∙_}
 use native.Mathlib.Omega.{arith}
 use lib.ListN.{length}
 use Rattle.rules.specs.View.{faceStart}
-use Rattle.rules.specs.Refusals.{viewRefusal}
 use Rattle.rules.proofs.Refusing.{Viewed, view-facts, answer-given, answer-refused}
 use Rattle.levels.proofs.Viewing.{Seen, seen, not-refused}
 use Rattle.station.specs.Written.{viewWritten}

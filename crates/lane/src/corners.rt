@@ -1,0 +1,54 @@
+// The four places of a bilinear lookup.
+use crate::number::place_number;
+use places::axis::axis;
+use places::place::place;
+use rules::Axis;
+use rules::Corners;
+use rules::Mode;
+use rules::Place;
+use rules::Plane;
+use rules::Square;
+ghost use mathlib.Core.Path.{_≡_};
+ghost use mathlib.Core.Bool.{true};
+ghost use Rattle.rules.specs.Refusals.{coordinateTaken};
+ghost use Rattle.rules.specs.Bilinear.{cornersOf, squareAt};
+ghost use Rattle.lane.specs.Held.{Sized};
+
+// The places p00, p10, p01, p11 of a face, and the weights.
+fn corners(p: Plane, face: usize, x: Axis, y: Axis) -> Square
+    requires { ⌜ Sized p ⌝ }
+    ensures { λ r. ⌜ r ≡ cornersOf p face x y ⌝ }
+{
+    let found00 = place(p, face, x.first, y.first);
+    let Place::At(p00) = found00 else {
+        return Square::Refused(place_number(found00));
+    };
+    let found10 = place(p, face, x.second, y.first);
+    let Place::At(p10) = found10 else {
+        return Square::Refused(place_number(found10));
+    };
+    let found01 = place(p, face, x.first, y.second);
+    let Place::At(p01) = found01 else {
+        return Square::Refused(place_number(found01));
+    };
+    let found11 = place(p, face, x.second, y.second);
+    let Place::At(p11) = found11 else {
+        return Square::Refused(place_number(found11));
+    };
+    Square::At(Corners {
+        p00,
+        p10,
+        p01,
+        p11,
+        fx: x.part,
+        fy: y.part,
+    })
+}
+
+// The same for a coordinate.
+pub fn square(p: Plane, face: usize, s: Mode, t: Mode, u: f32, v: f32) -> Square
+    requires { ⌜ Sized p × (coordinateTaken u ≡ true) × (coordinateTaken v ≡ true) ⌝ }
+    ensures { λ r. ⌜ r ≡ squareAt p face s t u v ⌝ }
+{
+    corners(p, face, axis(s, u, p.width), axis(t, v, p.height))
+}

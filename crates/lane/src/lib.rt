@@ -1,0 +1,9 @@
+// One lane of each lookup: its place in the chain, the texels that are read there, and what they make.
+pub mod bilinear;
+mod corners;
+pub mod cubemap;
+pub mod nearest;
+pub mod number;
+pub mod pixel;
+pub mod plane;
+pub mod trilinear;
