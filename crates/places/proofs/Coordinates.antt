@@ -1,14 +1,14 @@
 -- A coordinate is taken exactly where it lies in -2,048 to 2,048, which is two comparisons: a NaN fails both, an infinity one.
 -- Assumes nothing.
 use mathlib.Core.Path.{_≡_, refl, sym, _∙_, subst}
-use mathlib.Core.Bool.{true, false, not, _&&_}
+use mathlib.Core.Bool.{true, false, _&&_}
 use lib.IntN.{pos}
 use lib.Dec.{T}
 use lib.Ieee.{Float, nan, inf, fin, neg, le, lt, eq}
 use lib.Ieee.Fits.{and-i, and-l, and-r}
 use Rattle.rules.specs.Floats.{Between, magnitude}
 use Rattle.rules.specs.Refusals.{high11, coordinateTaken}
-use Rattle.places.proofs.Magnitudes.{same-test, le-not, Sized, sized, within, magnitude-le}
+use Rattle.places.proofs.Magnitudes.{same-test, le-not, sized, within, magnitude-le}
 
 -- -2,048
 abbrev pub low11 : Float

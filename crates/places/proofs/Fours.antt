@@ -1,27 +1,28 @@
 -- The greatest power of 4 up to a footprint, in the paper's words, and as half of the footprint's exponent: 4^j is at most f
 -- exactly where 2j is at most the exponent that f's bit pattern holds, since both say 2^(2j + 149) ≤ f in units of 2^-149.
 -- Assumes nothing.
-use mathlib.Core.Path.{_≡_, refl, sym, ap, _∙_, subst, subst₂}
+use mathlib.Core.Path.{_≡_, refl, sym, ap, _∙_, subst}
 use mathlib.Core.Logic.{_⊎_, inl, inr}
 use mathlib.Core.Bool.{Bool, true, false, not, cond, _&&_, _||_}
 use Prim.Native.Nat.{ℕ, zero, suc, _+_, _-_, _*_, _/_, _^_, _≤_, _<_, min, max}
-use native.Mathlib.Nat.{le-trans, le-of-lt, le-of-eq, lt-of-lt-of-le, lt-of-le-of-lt, lt-of-not-le, lt-irrefl, zero-lt-suc, mul-pos, mul-one, mul-right-comm, mul-le-mul-right, le-of-mul-le-mul-right, le-of-suc-le-suc, le-suc, eq-or-lt-of-le, pow-suc, pow-le-pow-right, le-div-iff-mul-le, div-lt-iff-lt-mul}
+use native.Mathlib.Nat.{le-trans, le-of-lt, le-of-eq, lt-of-lt-of-le, lt-of-le-of-lt, lt-of-not-le, lt-irrefl, zero-lt-suc, mul-one, mul-right-comm, mul-le-mul-right, le-of-mul-le-mul-right, le-of-suc-le-suc, le-suc, eq-or-lt-of-le, pow-suc, pow-le-pow-right, le-div-iff-mul-le, div-lt-iff-lt-mul}
 use native.Mathlib.Omega.{arith}
 use lib.IntN.{ℤ, pos}
 use lib.Dec.{T, leb, ltb, eqb, leb→le, le→leb, ltb→lt, eqb→eq, lit≤}
 use lib.Pow.{pow-pos, pow-mono, pow-add}
 use lib.Ieee.{Float, nan, inf, fin, binary32, up, down, lt, eq, le, ofInt, ofBits, toBits, isNan, size}
-use lib.Ieee.Fits.{down-pos, and-l, and-r}
+use lib.Ieee.Fits.{down-pos, and-l}
 use lib.Ieee.Exact.{HasValue}
 use lib.Ieee.Back.{round-whole}
 use lib.Ieee.Order.{le-of-values}
 use lib.Ieee.Digits.{size-lt, size-reaches}
-use borrow.Author.Tests.{le-leb, leb-true, leb-false}
+use borrow.Author.Tests.{le-leb, lt-leb, leb-true, leb-false}
 use Rattle.rules.specs.Floats.{float, four32}
 use Rattle.rules.specs.Footprint.{fourOf}
 use Rattle.rules.specs.Sizes.{log2, top}
 use Rattle.rules.proofs.Sides.{log2-bounds, exp-le}
 use Rattle.places.proofs.Magnitudes.{same-test}
+use Rattle.places.proofs.Wholes.{only-zero}
 
 or-split : (a b : Bool) → T (a || b) → T a ⊎ T b
 or-split true b t = inl tt
@@ -33,7 +34,7 @@ unfolding ofInt
 whole a h = round-whole binary32 false a h
 
 -- beside m * 2^e the test is one of whole numbers
-whole-le : (a : ℕ) (x : Float) (m : ℕ) (e : ℤ) → HasValue x false a 1 → le x (fin false m e) ≡ leb (a * down e) (m * up e)
+pub whole-le : (a : ℕ) (x : Float) (m : ℕ) (e : ℤ) → HasValue x false a 1 → le x (fin false m e) ≡ leb (a * down e) (m * up e)
 whole-le a nan m e v = absurd v
 whole-le a (inf s) m e v = absurd v
 whole-le a (fin true k d) m e v = absurd (subst T (v .0) tt)
@@ -51,15 +52,6 @@ whole-le a (fin false k d) m e v =
         (subst (λ (z : ℕ). z ≤ A * D) (ap (λ (z : ℕ). z * E) (sym (mul-one K) ∙ v) ∙ mul-right-comm a D E) l)
         h
 
--- a number from 1 up is not at most a negative one
-not-below : (a k : ℕ) (d : ℤ) (m : ℕ) (e : ℤ) → 0 < a → k * up d * 1 ≡ a * down d → T (le (fin false k d) (fin true m e)) → ⊥
-unfolding le lt eq
-not-below a k d m e h v t =
-    let z = eqb→eq (k * up d * down e) 0 (and-r (eqb (k * up d * down e) (m * up e * down d)) (eqb (k * up d * down e) 0) t) in
-    let p : 0 < k * up d * 1 = subst (λ (n : ℕ). 0 < n) (sym v) (mul-pos h (down-pos d)) in
-    let q : 0 < k * up d = subst (λ (n : ℕ). 0 < n) (mul-one (k * up d)) p in
-    lt-irrefl 0 (subst (λ (n : ℕ). 0 < n) z (mul-pos q (down-pos e)))
-
 -- what is at least a whole number is at least a smaller one
 pub at-least : (a b : ℕ) (x y f : Float) → 0 < b → b ≤ a → HasValue x false a 1 → HasValue y false b 1 → T (le x f) → T (le y f)
 at-least a b nan y f h l v w t = absurd v
@@ -71,23 +63,23 @@ at-least a b (fin false k d) (fin true n c) f h l v w t = absurd (subst T (w .0)
 at-least a b (fin false k d) (fin false n c) nan h l v w t = unfold le lt eq in t
 at-least a b (fin false k d) (fin false n c) (inf true) h l v w t = unfold le lt eq in t
 at-least a b (fin false k d) (fin false n c) (inf false) h l v w t = unfold le lt eq in tt
-at-least a b (fin false k d) (fin false n c) (fin true m e) h l v w t = absurd (not-below a k d m e (lt-of-lt-of-le h l) (v .1) t)
+at-least a b (fin false k d) (fin false n c) (fin true m e) h l v w t = absurd (lt-irrefl 0 (subst (λ (n : ℕ). 0 < n) (only-zero m e (fin false k d) a 1 (zero-lt-suc 0) v t .0) (lt-of-lt-of-le h l)))
 at-least a b (fin false k d) (fin false n c) (fin false m e) h l v w t =
     let A = leb→le (a * down e) (m * up e) (subst T (whole-le a (fin false k d) m e v) t) in
     subst T (sym (whole-le b (fin false n c) m e w)) (le→leb (b * down e) (m * up e) (le-trans (mul-le-mul-right (down e) l) A))
 
 -- ---- powers of 4
-four-two : (j : ℕ) → 4 ^ j ≡ 2 ^ (2 * j)
+pub four-two : (j : ℕ) → 4 ^ j ≡ 2 ^ (2 * j)
 four-two zero = refl
 four-two (suc j) = pow-suc 4 j ∙ ap (λ (z : ℕ). z * 4) (four-two j) ∙ sym (pow-add 2 (2 * j) 2) ∙ ap (λ (z : ℕ). 2 ^ z) (two j)
   where
     two : (j : ℕ) → 2 * j + 2 ≡ 2 * suc j
     two j = omega arith
 
-four-le : (i j : ℕ) → i ≤ j → 4 ^ i ≤ 4 ^ j
+pub four-le : (i j : ℕ) → i ≤ j → 4 ^ i ≤ 4 ^ j
 four-le i j h = pow-le-pow-right {n = 4} (zero-lt-suc 3) h
 
-power : (j : ℕ) → j ≤ 12 → HasValue (float (4 ^ j)) false (4 ^ j) 1
+pub power : (j : ℕ) → j ≤ 12 → HasValue (float (4 ^ j)) false (4 ^ j) 1
 power j h = whole (4 ^ j) (four-le j 12 h)
 
 -- ---- the exponent: n has s binary digits, and s - 23 stands in the pattern above the 23 digits below the leading one
@@ -159,7 +151,7 @@ exponent-fin m e t =
           ∙ by-digits (2 * j) n x s;
     }
 
-below-inf : (a : ℕ) (x : Float) → HasValue x false a 1 → le x (inf false) ≡ true
+pub below-inf : (a : ℕ) (x : Float) → HasValue x false a 1 → le x (inf false) ≡ true
 unfolding le lt eq
 below-inf a nan v = absurd v
 below-inf a (inf s) v = absurd v
@@ -172,7 +164,10 @@ exponent (inf false) t = unfold toBits in record { least = lit≤ tt; test = λ 
   where
     all : (j : ℕ) → j ≤ 12 → leb (2 * j + 127) 255 ≡ true
     all j h = le-leb (2 * j + 127) 255 (omega arith)
-exponent (fin true m e) t = absurd (not-below 4 1 (pos 2) m e (zero-lt-suc 3) refl (unfold ofBits in t))
+exponent (fin true m e) t = absurd (four-some (only-zero m e (fin false 1 (pos 2)) 4 1 (zero-lt-suc 0) (refl, refl) (unfold ofBits in t) .0))
+  where
+    four-some : _≡_ {A = ℕ} 4 0 → ⊥
+    four-some e = omega arith
 exponent (fin false m e) t = exponent-fin m e t
 
 pub no-nan : (f : Float) → T (le four32 f) → T (not (isNan f))
@@ -181,26 +176,40 @@ no-nan nan t = absurd (unfold le lt eq ofBits in t)
 no-nan (inf s) t = tt
 no-nan (fin s m e) t = tt
 
--- half of the exponent, lowered to n
-pub four-half : (n : ℕ) (f : Float) (x : ℕ) → n ≤ 12 → Exponent f x → min ((x - 127) / 2) n ≡ fourOf n f
+-- the level is h, lowered to n, where 4^j is at most the footprint exactly for the j from 1 up to h
+pub four-by : (n h : ℕ) (f : Float) → n ≤ 12 → ((j : ℕ) → 1 ≤ j → j ≤ 12 → le (float (4 ^ j)) f ≡ leb j h) → min h n ≡ fourOf n f
 unfolding fourOf
-four-half zero f x h k = omega arith
-four-half (suc n) f x h k =
-    go (leb (2 * suc n + 127) x) refl (four-half n f x (le-trans (le-suc n) h) k)
-    ∙ sym (ap (λ (b : Bool). cond b (suc n) (fourOf n f)) (k .test (suc n) h))
+four-by zero h f l k = omega arith
+four-by (suc n) h f l k =
+    go (leb (suc n) h) refl (four-by n h f (le-trans (le-suc n) l) k)
+    ∙ sym (ap (λ (b : Bool). cond b (suc n) (fourOf n f)) (k (suc n) (omega arith) l))
   where
-    go : (b : Bool) → leb (2 * suc n + 127) x ≡ b → min ((x - 127) / 2) n ≡ fourOf n f → min ((x - 127) / 2) (suc n) ≡ cond b (suc n) (fourOf n f)
-    go true e r = let l = leb-true (2 * suc n + 127) x e in omega arith
-    go false e r = let l = leb-false (2 * suc n + 127) x e in let b = k .least in rw (← r) (omega arith)
+    go : (b : Bool) → leb (suc n) h ≡ b → min h n ≡ fourOf n f → min h (suc n) ≡ cond b (suc n) (fourOf n f)
+    go true e r = let m = leb-true (suc n) h e in omega arith
+    go false e r = let m = leb-false (suc n) h e in rw (← r) (omega arith)
+
+-- half of the exponent
+pub four-half : (n : ℕ) (f : Float) (x : ℕ) → n ≤ 12 → Exponent f x → min ((x - 127) / 2) n ≡ fourOf n f
+four-half n f x h k = four-by n ((x - 127) / 2) f h (λ j a b. k .test j b ∙ half j (k .least))
+  where
+    half : (j : ℕ) → 127 ≤ x → leb (2 * j + 127) x ≡ leb j ((x - 127) / 2)
+    half j h =
+        same-test (leb (2 * j + 127) x) (leb j ((x - 127) / 2))
+        (λ t. le→leb j ((x - 127) / 2) (let l = leb→le (2 * j + 127) x t in omega arith))
+        (λ t. le→leb (2 * j + 127) x (let l = leb→le j ((x - 127) / 2) t in omega arith))
 
 -- below 4 the level is 0
 pub four-none : (n : ℕ) (f : Float) → n ≤ 12 → le four32 f ≡ false → fourOf n f ≡ 0
-unfolding fourOf
-four-none zero f h e = refl
-four-none (suc n) f h e = ap (λ (b : Bool). cond b (suc n) (fourOf n f)) (no e) ∙ four-none n f (le-trans (le-suc n) h) e
+four-none n f h e = sym (four-by n 0 f h (λ j a b. no j a b ∙ sym (lt-leb j 0 a))) ∙ none n
   where
-    no : le four32 f ≡ false → le (float (4 ^ suc n)) f ≡ false
-    no e = same-test (le (float (4 ^ suc n)) f) false (λ t. subst T e (at-least (4 ^ suc n) 4 (float (4 ^ suc n)) four32 f (zero-lt-suc 3) (four-le 1 (suc n) (omega arith)) (power (suc n) h) (unfold ofBits in (refl, refl)) t)) (λ t. absurd t)
+    no : (j : ℕ) → 1 ≤ j → j ≤ 12 → le (float (4 ^ j)) f ≡ false
+    no j a b =
+        same-test (le (float (4 ^ j)) f) false
+        (λ t. subst T e (at-least (4 ^ j) 4 (float (4 ^ j)) four32 f (zero-lt-suc 3) (four-le 1 j a) (power j b) (unfold ofBits in (refl, refl)) t))
+        (λ t. absurd t)
+
+    none : (n : ℕ) → min 0 n ≡ 0
+    none n = omega arith
 
 -- ---- the rule in the paper's words: the level's power is at most the footprint, and no level with that is greater
 pub four-fits : (n : ℕ) (f : Float) → (fourOf n f ≡ 0) ⊎ T (le (float (4 ^ fourOf n f)) f)

@@ -1,4 +1,5 @@
 pub mod Rests
+pub mod Wholes
 pub mod Lifts
 pub mod Finites
 pub mod Magnitudes
@@ -9,3 +10,5 @@ pub mod Pairs
 pub mod Taken
 pub mod Spots
 pub mod Weighing
+pub mod SourceWraps
+pub mod SourceLevels

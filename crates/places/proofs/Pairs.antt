@@ -3,7 +3,7 @@
 use mathlib.Core.Path.{_≡_, refl, sym, ap, _∙_, subst}
 use mathlib.Core.Logic.{inl, inr}
 use mathlib.Core.Bool.{Bool, true, false, cond}
-use Prim.Native.Nat.{ℕ, _+_, _-_, _*_, _/_, _≤_, _<_, min, zero-le}
+use Prim.Native.Nat.{ℕ, _+_, _*_, _/_, _≤_, min, zero-le}
 use native.Mathlib.Nat.{le-refl, zero-lt-suc, mul-le-mul-right}
 use native.Mathlib.Omega.{arith}
 use lib.IntN.{ℤ, pos, negℤ, natAbs}
@@ -18,14 +18,14 @@ use lib.Ieee.Scale.{finite}
 use Rattle.rules.specs.Floats.{Between, zero32, one32, float}
 use Rattle.rules.specs.Whole.{floorOf}
 use Rattle.rules.specs.Cubemap.{holdOf, pairingOf}
-use Rattle.rules.specs.declared.Pairing.{Pairing}
 use Rattle.texel.specs.Ends.{low23, high23}
 use Rattle.texel.proofs.Range.{le→, Between-finite, le-trans-finite}
 use Rattle.texel.proofs.Unit.{ends}
 use Rattle.texel.proofs.Total.{le-or-lt}
 use Rattle.texel.proofs.Coord.{side-float}
 use Rattle.texel.proofs.Fraction.{fraction-in}
-use Rattle.places.proofs.Spans.{value-finite, upper, up-le, down-le}
+use Rattle.places.proofs.Wholes.{value-finite}
+use Rattle.places.proofs.Spans.{upper, up-le, down-le}
 
 -- ---- held to 0..top
 top-in : (n : ℕ) → Between zero32 (float n) (float n)

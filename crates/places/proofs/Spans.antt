@@ -1,21 +1,20 @@
 -- The texel numbers of a coordinate. With n = 2048 * width, u * width lies in -n to n and u * width - 0.5 in -n - 1 to n, since
 -- these ends are floats as they are; so a floor t of them has |t| and |t + 1| up to n + 1, and the wrap takes both.
 -- Assumes nothing.
-use mathlib.Core.Path.{_≡_, refl, sym, ap, _∙_, subst}
-use mathlib.Core.Bool.{Bool, true, false, cond, _&&_}
-use Prim.Native.Nat.{ℕ, zero, suc, _+_, _-_, _*_, _/_, _^_, _≤_, _<_, max}
-use native.Mathlib.Nat.{le-trans, le-of-eq, le-of-suc-le-suc, zero-lt-suc, mul-one, one-mul, mul-pos, mul-assoc, mul-right-comm, add-mul, mul-le-mul-right, le-of-mul-le-mul-right, div-lt-iff-lt-mul}
+use mathlib.Core.Path.{_≡_, refl, sym, subst}
+use mathlib.Core.Bool.{true, false}
+use Prim.Native.Nat.{ℕ, zero, suc, _+_, _-_, _*_, _/_, _^_, _≤_, _<_, max, zero-le}
+use native.Mathlib.Nat.{le-of-suc-le-suc, mul-one, div-lt-iff-lt-mul}
 use native.Mathlib.Omega.{arith}
 use lib.IntN.{ℤ, pos, negsuc, negℤ, natAbs, sucℤ, _+ℤ_, +ℤ-one}
 use lib.Signed.{mag}
 use lib.Dec.{T, le→leb, lt→ltb}
-use lib.Ieee.{Float, nan, inf, fin, binary32, up, down, unlike, round, sum, neg, add, sub, mul, le, ofInt, ofBits, inFloat}
+use lib.Ieee.{Float, nan, inf, fin, binary32, up, down, neg, sub, mul, le, ofInt, ofBits, inFloat}
 use lib.Ieee.Fits.{down-pos}
 use lib.Ieee.Exact.{HasValue}
 use lib.Ieee.Back.{round-whole}
-use lib.Ieee.Scale.{finite, round-same}
-use lib.Ieee.Positive.{positive, positive-of-value}
-use borrow.Author.Tests.{le-ltb}
+use lib.Ieee.Scale.{finite}
+use lib.Ieee.Positive.{positive-of-value}
 use Rattle.rules.specs.Floats.{Between, zero32, half32, one32, float}
 use Rattle.rules.specs.Whole.{floorOf}
 use Rattle.rules.specs.Refusals.{high11, coordinateTaken}
@@ -23,13 +22,13 @@ use Rattle.rules.specs.Places.{nearestOf}
 use Rattle.rules.specs.Wrapping.{wrapOf}
 use Rattle.rules.specs.Bilinear.{spanOf, axisOf}
 use Rattle.rules.specs.declared.Mode.{Mode}
-use Rattle.rules.specs.declared.Axis.{Axis}
 use Rattle.texel.specs.Ends.{low23, high23}
-use Rattle.texel.proofs.Range.{le→, Between-finite, in-mul-by, in-sub, le-trans-finite}
+use Rattle.texel.proofs.Range.{neg-order, Between-finite, in-mul-by, in-sub, le-trans-finite}
 use Rattle.texel.proofs.Unit.{ends}
 use Rattle.texel.proofs.Coord.{coord-in}
 use Rattle.texel.proofs.Fraction.{fraction-in}
 use Rattle.places.proofs.Rests.{suc-mul}
+use Rattle.places.proofs.Wholes.{value-finite, below-value, neg-value, mul-whole, sub-whole, sub-apart}
 use Rattle.places.proofs.Coordinates.{low11, taken-in}
 
 -- ---- the floor of a value between two whole ends
@@ -52,26 +51,12 @@ up-le A D k h l = le-of-suc-le-suc (div-lt-iff-lt-mul h .1 (let e = suc-mul k D 
 pub down-le : (A D k : ℕ) → 0 < D → A ≤ k * D → A / D ≤ k
 down-le A D k h l = le-of-suc-le-suc (div-lt-iff-lt-mul h .1 (let e = suc-mul k D in omega arith))
 
--- a value K / d that is the whole number n
-cross : (A D K d n : ℕ) → 0 < d → K * 1 ≡ n * d → A * d ≤ K * D → A ≤ n * D
-cross A D K d n h v l =
-    le-of-mul-le-mul-right (le-trans l (le-of-eq (ap (λ (z : ℕ). z * D) (sym (mul-one K) ∙ v) ∙ mul-right-comm n d D))) h
-
 pub upper : (m : ℕ) (e : ℤ) (hi : Float) (b : ℕ) → HasValue hi false b 1 → T (le (fin false m e) hi) → m * up e ≤ b * down e
-upper m e nan b v h = absurd v
-upper m e (inf s) b v h = absurd v
-upper m e (fin true k d) b v h = absurd (subst T (v .0) tt)
-upper m e (fin false k d) b v h =
-    let l = le→ (fin false m e) (fin false k d) tt tt h in
-    cross (m * up e) (down e) (k * up d) (down d) b (down-pos d) (v .1) (omega arith)
+upper m e hi b v h = subst (λ (n : ℕ). n ≤ b * down e) (mul-one (m * up e)) (below-value m e hi b 1 v h)
 
 lower : (m : ℕ) (e : ℤ) (lo : Float) (a : ℕ) → HasValue lo true a 1 → T (le lo (fin true m e)) → m * up e ≤ a * down e
-lower m e nan a v h = absurd v
-lower m e (inf s) a v h = absurd v
-lower m e (fin false k d) a v h = absurd (subst T (sym (v .0)) tt)
-lower m e (fin true k d) a v h =
-    let l = le→ (fin true k d) (fin true m e) tt tt h in
-    cross (m * up e) (down e) (k * up d) (down d) a (down-pos d) (v .1) (omega arith)
+unfolding neg
+lower m e lo a v h = upper m e (neg lo) a (neg-value lo a 1 v) (neg-order (fin true m e) lo h)
 
 floored : (x lo hi : Float) (a b : ℕ) → T (finite x) → HasValue lo true a 1 → HasValue hi false b 1 → Between lo x hi → Floored (floorOf x) a b
 unfolding floorOf
@@ -82,54 +67,10 @@ floored (fin false m e) lo hi a b f v w r =
     let l = down-le (m * up e) (down e) b (down-pos e) (upper m e hi b w (r .high)) in
     record { near = omega arith; next = omega arith }
 
--- ---- whole values: n times 2048, less 1, less 0
-pub value-finite : (x : Float) (s : Bool) (a c : ℕ) → HasValue x s a c → T (finite x)
-value-finite nan s a c v = v
-value-finite (inf t) s a c v = v
-value-finite (fin t m e) s a c v = tt
-
-as-whole : (s : Bool) (A D n : ℕ) → 0 < D → A ≡ n * D → n ≤ 16777216 → HasValue (round binary32 s A D) s n 1
-as-whole s A D n h e l =
-    subst (λ (x : Float). HasValue x s n 1) (sym (round-same binary32 s A D n 1 h (zero-lt-suc 0) (mul-one A ∙ e))) (round-whole binary32 s n l)
-
-unlike-false : (s : Bool) → unlike s false ≡ s
-unlike-false true = refl
-unlike-false false = refl
-
-times : (s : Bool) (y : Float) (w : ℕ) → HasValue y false w 1 → 2048 * w ≤ 16777216 → HasValue (mul binary32 (fin s 1 (pos 11)) y) s (2048 * w) 1
-unfolding mul
-times s nan w v h = absurd v
-times s (inf t) w v h = absurd v
-times s (fin true k d) w v h = absurd (subst T (v .0) tt)
-times s (fin false k d) w v h =
-    rw (unlike-false s) (as-whole s _ (1 * down d) (2048 * w) (mul-pos (zero-lt-suc 0) (down-pos d)) (scaled (k * up d) w (down d) (v .1)) h)
-  where
-    scaled : (K w D : ℕ) → K * 1 ≡ w * D → 2048 * K ≡ 2048 * w * (1 * D)
-    scaled K w D e = let a = mul-assoc 2048 w (1 * D) in omega arith
-
-less-one : (y : Float) (n : ℕ) → HasValue y true n 1 → n + 1 ≤ 16777216 → HasValue (sub binary32 y one32) true (n + 1) 1
-unfolding sub add sum neg ofBits
-less-one nan n v h = absurd v
-less-one (inf t) n v h = absurd v
-less-one (fin false k d) n v h = absurd (subst T (sym (v .0)) tt)
-less-one (fin true k d) n v h = as-whole true _ (down d * 1) (n + 1) (mul-pos (down-pos d) (zero-lt-suc 0)) (more (k * up d) n (down d) (v .1)) h
-  where
-    more : (K n D : ℕ) → K * 1 ≡ n * D → K * 1 + 1 * 1 * D ≡ (n + 1) * (D * 1)
-    more K n D e = let a = add-mul n 1 (D * 1) in let b = mul-assoc n D 1 in omega arith
-
-less-zero : (y : Float) (n : ℕ) → HasValue y false n 1 → n ≤ 16777216 → HasValue (sub binary32 y zero32) false n 1
-unfolding sub add sum neg ofBits
-less-zero nan n v h = absurd v
-less-zero (inf t) n v h = absurd v
-less-zero (fin true k d) n v h = absurd (subst T (v .0) tt)
-less-zero (fin false k d) n v h =
-    rw (le-ltb (k * up d * 1) (0 * 1 * down d) (omega arith))
-    (as-whole false _ (down d * 1) n (mul-pos (down-pos d) (zero-lt-suc 0)) (same (k * up d) n (down d) (v .1)) h)
-  where
-    same : (K n D : ℕ) → K * 1 ≡ n * D → K * 1 - 0 * 1 * D ≡ n * (D * 1)
-    same K n D e = let b = mul-assoc n D 1 in omega arith
-
 -- ---- a coordinate that is taken, along a side w
+less-none : (n : ℕ) → n - 0 ≡ n
+less-none n = omega arith
+
 half-in : Between zero32 half32 one32
 unfolding ofBits le
 half-in = record { low = tt; high = tt }
@@ -155,10 +96,10 @@ module _ (u : Float) (w : ℕ) (t : T (coordinateTaken u)) (a : 1 ≤ w) (b : w 
   side = round-whole binary32 false w (omega arith)
 
   lowest : HasValue (mul binary32 low11 (float w)) true (2048 * w) 1
-  lowest = times true (float w) w side (omega arith)
+  lowest = mul-whole low11 (float w) true 2048 w (refl, refl) side (omega arith)
 
   highest : HasValue (mul binary32 high11 (float w)) false (2048 * w) 1
-  highest = times false (float w) w side (omega arith)
+  highest = mul-whole high11 (float w) false 2048 w (refl, refl) side (omega arith)
 
   product-in : Between (mul binary32 low11 (float w)) (mul binary32 u (float w)) (mul binary32 high11 (float w))
   product-in = in-mul-by binary32 low11 u high11 (float w) tt tt (positive-of-value (float w) w 1 side a) (taken-in u t)
@@ -187,8 +128,8 @@ module _ (u : Float) (w : ℕ) (t : T (coordinateTaken u)) (a : 1 ≤ w) (b : w 
   span-floored =
       floored _ _ _ (2048 * w + 1) (2048 * w)
       (Between-finite low23 (spanOf u w) high23 tt tt span-in)
-      (less-one _ (2048 * w) lowest (omega arith))
-      (less-zero _ (2048 * w) highest (omega arith))
+      (sub-apart (mul binary32 low11 (float w)) one32 (2048 * w) 1 lowest (refl, refl) (omega arith))
+      (subst (λ (n : ℕ). HasValue (sub binary32 (mul binary32 high11 (float w)) zero32) false n 1) (less-none (2048 * w)) (sub-whole (mul binary32 high11 (float w)) zero32 (2048 * w) 0 highest (refl, refl) zero-le (omega arith)))
       (in-sub binary32 _ _ _ zero32 half32 one32 (value-finite (mul binary32 low11 (float w)) true (2048 * w) 1 lowest) (value-finite (mul binary32 high11 (float w)) false (2048 * w) 1 highest) tt tt product-in half-in)
 
 -- a floor of these is a float as it is, and so a number that the code can add 1 to

@@ -20,7 +20,7 @@ use Rattle.texel.proofs.Total.{le-or-lt, lt-le}
 use Rattle.texel.proofs.Same.{mul-by-one, mul-by-minus, neg-holds}
 use Rattle.places.specs.Spots.{OnCube}
 use Rattle.places.proofs.Magnitudes.{Sized, sized, within, opposite}
-use Rattle.places.proofs.Taken.{or-split, compared, Compared, parts, finite-of-le, direction-words}
+use Rattle.places.proofs.Taken.{or-split, Compared, parts, finite-of-le, direction-words}
 
 -- ---- the choice made value by value is the choice of the whole place
 chosen : (bx by : Bool) (f g h : ℕ) (q1 q2 q3 p1 p2 p3 m1 m2 m3 : Float)

@@ -2,9 +2,9 @@
 use mathlib.Core.Path.{_≡_, refl}
 use Prim.Native.Nat.{_*_, _^_, _<_}
 use native.Mathlib.Omega.{arith}
-use lib.IntN.{pos, _+ℤ_}
+use lib.IntN.{pos}
 use mir.Syntax.{w64}
-use mir.Val.{SFits, toZ, ofZ}
+use mir.Val.{toZ, ofZ}
 use mir.ValLaws.{toZ-ofZ, toZ-pos}
 use borrow.Author.Needs.{needs, sfits-of}
 use Rattle.places.proofs.Lifts.{Lift, lift}
