@@ -1,3 +1,4 @@
+-- Three times four numbers are three lanes: each by what `lanes` ensures. Assumes nothing.
 use borrow.Author.Needs.{needs}
 use Rattle.station.proofs.lanes.directions.Statement.{statement}
 use Rattle.station.proofs.lanes.directions.Tie as tie

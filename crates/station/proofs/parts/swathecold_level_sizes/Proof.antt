@@ -1,3 +1,4 @@
+-- The unit's answer, handed out by `sizes_out`. Assumes nothing.
 use borrow.Author.Needs.{needs}
 use Rattle.station.proofs.parts.swathecold_level_sizes.Statement.{statement}
 use Rattle.station.proofs.parts.swathecold_level_sizes.Tie as tie

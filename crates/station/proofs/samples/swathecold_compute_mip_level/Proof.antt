@@ -1,3 +1,4 @@
+-- The unit's answer to the steps behind the pointer, handed out by `level_out`. Assumes nothing.
 use borrow.Author.Needs.{needs}
 use Rattle.station.proofs.samples.swathecold_compute_mip_level.Statement.{statement}
 use Rattle.station.proofs.samples.swathecold_compute_mip_level.Tie as tie

@@ -1,3 +1,4 @@
+-- The unit's answer to the directions behind the pointers, handed out by `facing_out`. Assumes nothing.
 use borrow.Author.Needs.{needs}
 use Rattle.station.proofs.samples.swathecold_cubemap_uv_from_normal.Statement.{statement}
 use Rattle.station.proofs.samples.swathecold_cubemap_uv_from_normal.Tie as tie

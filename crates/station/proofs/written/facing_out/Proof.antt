@@ -1,3 +1,5 @@
+-- By cases on the answer: where it has the places, they and the faces are written and 0 is answered; where it refuses, nothing is.
+-- Assumes nothing.
 use mathlib.Core.Path.{refl}
 use borrow.Author.Needs.{needs}
 use Rattle.station.proofs.written.facing_out.Statement.{statement}
