@@ -1,5 +1,5 @@
 # make demo, make test: all the set-up that is needed, nothing else. The rest is for whoever works on the unit.
-.PHONY: demo test samples sheet sheets differential bench answers proof-times
+.PHONY: demo test archive samples sheet sheets differential bench answers proof-times
 
 CC ?= cc
 CFLAGS = -std=c11 -O2 -Wall -Wextra -Werror -Iinclude
