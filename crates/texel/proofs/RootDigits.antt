@@ -196,10 +196,10 @@ exact n m e s g v k =
         ∙ ap (λ (z : ℕ). 2 ^ z) k ∙ pow-add 2 149 e
 
 square-of : (a g : ℕ) → (a * 2 ^ g) ^ 2 * 2 ^ 149 ≡ a * a * (2 ^ g * 2 ^ g * 2 ^ 149)
-square-of a g = ap (λ (z : ℕ). z * 2 ^ 149) (sq (a * 2 ^ g)) ∙ ac a (2 ^ g) (2 ^ 149)
+square-of a g = ap (λ (z : ℕ). z * 2 ^ 149) (sq (a * 2 ^ g)) ∙ regroup a (2 ^ g) (2 ^ 149)
   where
-    ac : (a G Q : ℕ) → a * G * (a * G) * Q ≡ a * a * (G * G * Q)
-    ac a G Q = simp (mul-assoc, mul-left-comm)
+    regroup : (a G Q : ℕ) → a * G * (a * G) * Q ≡ a * a * (G * G * Q)
+    regroup a G Q = simp (mul-assoc, mul-left-comm)
 
 scale-pos : (g : ℕ) → 0 < 2 ^ g * 2 ^ g * 2 ^ 149
 scale-pos g = mul-pos (mul-pos (pow-pos g) (pow-pos g)) (pow-pos 149)
