@@ -5,9 +5,6 @@ pub use lane_by_lane::*;
 #[cfg(target_arch = "x86_64")]
 pub use vector_unit::*;
 
-/// From this magnitude on every f32 is a whole number.
-const WHOLE: f32 = 8388608.0;
-
 /// Four lanes, as a vector stores them.
 #[derive(Clone, Copy, Debug)]
 #[repr(C, align(16))]
@@ -21,8 +18,11 @@ pub struct Truths(pub [u32; 4]);
 /// The vector unit: SSE2, which every x86-64 has.
 #[cfg(target_arch = "x86_64")]
 mod vector_unit {
-    use super::{Four, Truths, WHOLE};
+    use super::{Four, Truths};
     use std::arch::x86_64::*;
+
+    /// From this magnitude on every f32 is a whole number.
+    const WHOLE: f32 = 8388608.0;
 
     #[inline(always)]
     fn of(four: Four) -> __m128 {
@@ -114,56 +114,69 @@ mod lane_by_lane {
     use super::{Four, Truths};
     use std::ops::{Add, Div, Mul, Sub};
 
+    #[inline(always)]
     fn each(a: Four, lane: impl Fn(f32) -> f32) -> Four {
         Four(a.0.map(lane))
     }
 
+    #[inline(always)]
     fn pairs(a: Four, b: Four, lane: impl Fn(f32, f32) -> f32) -> Four {
         Four(std::array::from_fn(|i| lane(a.0[i], b.0[i])))
     }
 
+    #[inline(always)]
     fn holds(a: Four, b: Four, lane: impl Fn(f32, f32) -> bool) -> Truths {
         Truths(std::array::from_fn(|i| if lane(a.0[i], b.0[i]) { u32::MAX } else { 0 }))
     }
 
+    #[inline(always)]
     pub fn add(a: Four, b: Four) -> Four {
         pairs(a, b, f32::add)
     }
 
+    #[inline(always)]
     pub fn sub(a: Four, b: Four) -> Four {
         pairs(a, b, f32::sub)
     }
 
+    #[inline(always)]
     pub fn mul(a: Four, b: Four) -> Four {
         pairs(a, b, f32::mul)
     }
 
+    #[inline(always)]
     pub fn div(a: Four, b: Four) -> Four {
         pairs(a, b, f32::div)
     }
 
     /// The smaller of two; the second where neither is.
+    #[inline(always)]
     pub fn min(a: Four, b: Four) -> Four {
         pairs(a, b, |a, b| if a < b { a } else { b })
     }
 
     /// The larger of two; the second where neither is.
+    #[inline(always)]
     pub fn max(a: Four, b: Four) -> Four {
         pairs(a, b, |a, b| if a > b { a } else { b })
     }
 
+    #[inline(always)]
     pub fn ge(a: Four, b: Four) -> Truths {
         holds(a, b, |a, b| a >= b)
     }
 
+    #[inline(always)]
     pub fn gt(a: Four, b: Four) -> Truths {
         holds(a, b, |a, b| a > b)
     }
 
+    #[inline(always)]
     pub fn and(a: Truths, b: Truths) -> Truths {
         Truths(std::array::from_fn(|lane| a.0[lane] & b.0[lane]))
     }
 
+    #[inline(always)]
     pub fn select(holds: Truths, a: Four, b: Four) -> Four {
         Four(std::array::from_fn(|lane| {
             if holds.0[lane] != 0 {
@@ -174,14 +187,17 @@ mod lane_by_lane {
         }))
     }
 
+    #[inline(always)]
     pub fn abs(a: Four) -> Four {
         each(a, f32::abs)
     }
 
+    #[inline(always)]
     pub fn floor(a: Four) -> Four {
         each(a, f32::floor)
     }
 
+    #[inline(always)]
     pub fn round(a: Four) -> Four {
         each(a, f32::round_ties_even)
     }

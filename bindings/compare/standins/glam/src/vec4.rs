@@ -167,20 +167,27 @@ operation!(Sub sub SubAssign sub_assign);
 operation!(Mul mul MulAssign mul_assign);
 operation!(Div div DivAssign div_assign);
 
-#[cfg(target_arch = "x86_64")]
-impl From<Vec4> for std::arch::x86_64::__m128 {
-    #[inline(always)]
-    fn from(v: Vec4) -> Self {
-        // Both are four f32, aligned to 16 bytes.
-        unsafe { std::mem::transmute(v) }
-    }
+/// Between these four lanes and the processor's own.
+macro_rules! own_lanes {
+    ($arch:literal $own:path) => {
+        #[cfg(target_arch = $arch)]
+        impl From<Vec4> for $own {
+            #[inline(always)]
+            fn from(v: Vec4) -> Self {
+                // Both are four f32, aligned to 16 bytes; so below.
+                unsafe { std::mem::transmute(v) }
+            }
+        }
+
+        #[cfg(target_arch = $arch)]
+        impl From<$own> for Vec4 {
+            #[inline(always)]
+            fn from(v: $own) -> Self {
+                unsafe { std::mem::transmute(v) }
+            }
+        }
+    };
 }
 
-#[cfg(target_arch = "x86_64")]
-impl From<std::arch::x86_64::__m128> for Vec4 {
-    #[inline(always)]
-    fn from(v: std::arch::x86_64::__m128) -> Self {
-        // Both are four f32, aligned to 16 bytes.
-        unsafe { std::mem::transmute(v) }
-    }
-}
+own_lanes!("x86_64" std::arch::x86_64::__m128);
+own_lanes!("aarch64" std::arch::aarch64::float32x4_t);
