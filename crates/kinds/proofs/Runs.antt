@@ -7,9 +7,9 @@ use Prim.Native.Nat.{ℕ, zero, suc, _+_, _≤_, _<_}
 use native.Mathlib.Nat.{zero-add, add-zero, add-suc, suc-add, add-assoc}
 use native.Mathlib.Omega.{arith}
 use lib.ListN.{length, getD, take, drop, set, length-append, length-drop, take-append-drop, List·getD-append}
-use lib.Seq.{length-take-le, take-at, drop-at, drop-drop, getD-take, set-split}
+use lib.Seq.{length-take-le, take-at, drop-at, drop-drop, getD-take, getD-append-add, set-split}
 use Rattle.rules.specs.Levels.{tab}
-use Rattle.rules.proofs.Grid.{length-tab, tab-ext}
+use Rattle.rules.proofs.Grid.{length-tab, getD-tab, tab-ext}
 use Rattle.kinds.specs.Runs.{over}
 
 -- ---- runs
@@ -44,6 +44,15 @@ module _ (at : ℕ) (old : List ℕ) where
   unfolding over
   over-before n f i room lt =
       List·getD-append (take at old) _ 0 i (omega (arith, length-take-le at old room)) ∙ getD-take at old i 0 lt
+
+  -- what lies in it
+  pub over-within : (n : ℕ) (f : ℕ → ℕ) (k : ℕ) → at ≤ length old → k < n → getD (over at old n f) (at + k) 0 ≡ f k
+  unfolding over
+  over-within n f k room lt =
+      ap (λ (i : ℕ). getD (take at old ++ (tab n f ++ drop (at + n) old)) (i + k) 0) (sym (length-take-le at old room))
+      ∙ getD-append-add (take at old) _ k 0
+      ∙ List·getD-append (tab n f) _ 0 k (omega (arith, length-tab n f))
+      ∙ getD-tab n f k lt
 
   -- one texel
   pub over-one : (f : ℕ → ℕ) (v : ℕ) → at < length old → v ≡ f 0 → set old at v ≡ over at old 1 f

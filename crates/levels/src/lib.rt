@@ -5,3 +5,4 @@ pub mod cut;
 pub mod refusals;
 pub mod sizes;
 pub mod view;
+pub mod walk;

@@ -1,10 +1,14 @@
 // The refusal numbers: each is given exactly when its test fails, and 0 is no refusal.
-use crate::sizes::count_of;
 use crate::sizes::faces_of;
 use crate::sizes::top_level;
+use crate::walk::starts_of;
 ghost use mathlib.Core.Path.{_≡_};
 ghost use mathlib.Core.Bool.{_&&_};
+ghost use Prim.Native.Nat.{_≤_};
+ghost use lib.ListN.{length};
+ghost use Rattle.rules.specs.Kinds.{facesOf};
 ghost use Rattle.rules.specs.Refusals.{_orElse_, sideTaken, kindRefusal, sidesRefusal, bufferRefusal, levelRefusal, noCubemapRefusal, onlyCubemapRefusal, faceRefusal, pictureRefusal, chainRefusal};
+ghost use Rattle.levels.specs.Starts.{Started};
 
 // The first that is given.
 pub fn or_else(n: u32, m: u32) -> u32
@@ -100,13 +104,23 @@ pub fn picture_refusal(kind: u32, width: u32, height: u32) -> u32
     or_else(kind_refusal(kind), sides_refusal(width, height))
 }
 
-// 1, 2, 3: the picture, then a buffer of n entries for its whole chain.
-pub fn chain_refusal(kind: u32, width: u32, height: u32, n: usize) -> u32
-    ensures { λ r. ⌜ r ≡ chainRefusal kind width height n ⌝ }
+// 1, 2, 3: the picture, then a buffer of n entries for its whole chain. Where none is given, each level's start is written.
+pub fn started_refusal(kind: u32, width: u32, height: u32, n: usize, starts: &mut [usize]) -> u32
+    requires { ⌜ 13 ≤ length (now starts) ⌝ }
+    ensures number { λ r. ⌜ r ≡ chainRefusal kind width height n ⌝ }
+    ensures starts { λ r. ⌜ ((r ≡ 0) → Started (facesOf kind) width height (now (starts .exit))) ⌝ }
 {
     let of_picture = picture_refusal(kind, width, height);
     if of_picture != 0 {
         return of_picture;
     }
-    buffer_refusal(count_of(faces_of(kind), width, height), n)
+    buffer_refusal(starts_of(faces_of(kind), width, height, starts), n)
+}
+
+// The same where the starts are of no use.
+pub fn chain_refusal(kind: u32, width: u32, height: u32, n: usize) -> u32
+    ensures { λ r. ⌜ r ≡ chainRefusal kind width height n ⌝ }
+{
+    let mut starts = [0usize; 13];
+    started_refusal(kind, width, height, n, &mut starts)
 }
