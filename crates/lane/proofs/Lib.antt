@@ -1,3 +1,4 @@
 pub mod Holding
 pub mod Levels
 pub mod Passing
+pub mod Together

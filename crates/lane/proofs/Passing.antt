@@ -6,11 +6,14 @@ use Rattle.rules.specs.declared.Place.{Place}
 use Rattle.rules.specs.declared.Place.the-variants.{Refused as NoPlace}
 use Rattle.rules.specs.declared.Square.{Square}
 use Rattle.rules.specs.declared.Square.the-variants.{Refused as NoSquare}
-use Rattle.rules.specs.declared.Pixel.{Pixel}
-use Rattle.rules.specs.declared.Pixel.the-variants.{Refused as NoPixel}
-use Rattle.rules.specs.declared.Value.{Value}
-use Rattle.rules.specs.declared.Value.the-variants.{Refused as NoValue}
-use Rattle.lane.specs.Numbers.{placeNumber, squareNumber, pixelNumber, valueNumber}
+use Rattle.lane.specs.declared.reading.Reading.{Reading}
+use Rattle.lane.specs.declared.reading.Reading.the-variants.{Refused as NoReading}
+use Rattle.lane.specs.declared.reading.Squares.{Squares}
+use Rattle.lane.specs.declared.reading.Squares.the-variants.{Refused as NoSquares}
+use Rattle.lane.specs.declared.trilinear.Between.{Between}
+use Rattle.lane.specs.declared.trilinear.Between.the-variants.{Refused as NoEight}
+use Rattle.lane.specs.Cubes.{betweenNumber}
+use Rattle.lane.specs.Numbers.{placeNumber, squareNumber, readingNumber, squaresNumber}
 
 -- for any kind of answer: `refused n` refuses by n, and `number` is the number in an answer
 passed : {A : Type 0} (refused : ℕ → A) (number : A → ℕ) → ((n : ℕ) → number (refused n) ≡ n) → {asked found : A} {n k : ℕ} → found ≡ asked → found ≡ refused n → k ≡ number found → asked ≡ refused k
@@ -22,8 +25,11 @@ place-passed e g h = passed NoPlace placeNumber (λ n. refl) e g h
 pub square-passed : {asked found : Square} {n k : ℕ} → found ≡ asked → found ≡ NoSquare n → k ≡ squareNumber found → asked ≡ NoSquare k
 square-passed e g h = passed NoSquare squareNumber (λ n. refl) e g h
 
-pub pixel-passed : {asked found : Pixel} {n k : ℕ} → found ≡ asked → found ≡ NoPixel n → k ≡ pixelNumber found → asked ≡ NoPixel k
-pixel-passed e g h = passed NoPixel pixelNumber (λ n. refl) e g h
+pub reading-passed : {asked found : Reading} {n k : ℕ} → found ≡ asked → found ≡ NoReading n → k ≡ readingNumber found → asked ≡ NoReading k
+reading-passed e g h = passed NoReading readingNumber (λ n. refl) e g h
 
-pub value-passed : {asked found : Value} {n k : ℕ} → found ≡ asked → found ≡ NoValue n → k ≡ valueNumber found → asked ≡ NoValue k
-value-passed e g h = passed NoValue valueNumber (λ n. refl) e g h
+pub squares-passed : {asked found : Squares} {n k : ℕ} → found ≡ asked → found ≡ NoSquares n → k ≡ squaresNumber found → asked ≡ NoSquares k
+squares-passed e g h = passed NoSquares squaresNumber (λ n. refl) e g h
+
+pub between-passed : {asked found : Between} {n k : ℕ} → found ≡ asked → found ≡ NoEight n → k ≡ betweenNumber found → asked ≡ NoEight k
+between-passed e g h = passed NoEight betweenNumber (λ n. refl) e g h

@@ -4,10 +4,10 @@ use Rattle.rules.specs.declared.Place.{Place}
 use Rattle.rules.specs.declared.Place.the-variants.{At as AtPlace, Refused as NoPlace}
 use Rattle.rules.specs.declared.Square.{Square}
 use Rattle.rules.specs.declared.Square.the-variants.{At as AtSquare, Refused as NoSquare}
-use Rattle.rules.specs.declared.Pixel.{Pixel}
-use Rattle.rules.specs.declared.Pixel.the-variants.{Of as OfPixel, Refused as NoPixel}
-use Rattle.rules.specs.declared.Value.{Value}
-use Rattle.rules.specs.declared.Value.the-variants.{Of as OfValue, Refused as NoValue}
+use Rattle.lane.specs.declared.reading.Reading.{Reading}
+use Rattle.lane.specs.declared.reading.Reading.the-variants.{At as AtReading, Refused as NoReading}
+use Rattle.lane.specs.declared.reading.Squares.{Squares}
+use Rattle.lane.specs.declared.reading.Squares.the-variants.{At as AtSquares, Refused as NoSquares}
 
 abbrev pub placeNumber : Place → ℕ
 placeNumber (AtPlace i) = 0
@@ -17,10 +17,10 @@ abbrev pub squareNumber : Square → ℕ
 squareNumber (AtSquare c) = 0
 squareNumber (NoSquare n) = n
 
-abbrev pub pixelNumber : Pixel → ℕ
-pixelNumber (OfPixel p) = 0
-pixelNumber (NoPixel n) = n
+abbrev pub readingNumber : Reading → ℕ
+readingNumber (AtReading f) = 0
+readingNumber (NoReading n) = n
 
-abbrev pub valueNumber : Value → ℕ
-valueNumber (OfValue x) = 0
-valueNumber (NoValue n) = n
+abbrev pub squaresNumber : Squares → ℕ
+squaresNumber (AtSquares f) = 0
+squaresNumber (NoSquares n) = n

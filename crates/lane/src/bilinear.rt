@@ -1,47 +1,112 @@
 // The bilinear lookup: the four texels around a coordinate, blended by the two weights.
 use crate::corners::square;
-use crate::number::square_number;
 use crate::pixel::opacity_at;
-use crate::pixel::rgb_at;
+use crate::pixel::rgb_four;
+use crate::reading::Four;
+use crate::reading::FourCorners;
+use crate::reading::Squares;
+use crate::reading::all_squares;
 use places::blend::blend;
 use places::blend::blend_alpha;
 use places::blend::weigh;
 use rules::Corners;
+use rules::Directions;
+use rules::Lanes;
 use rules::Mode;
-use rules::Pixel;
 use rules::Plane;
-use rules::Rgb;
-use rules::Square;
-use rules::Value;
 use rules::Weights;
+use rules::Wholes;
 ghost use mathlib.Core.Path.{_≡_};
-ghost use mathlib.Core.Bool.{true};
-ghost use Rattle.rules.specs.Refusals.{coordinateTaken};
-ghost use Rattle.rules.specs.Bilinear.{blendRgb, cornersRgb, cornersAlpha, bilinearRgb, bilinearAlpha};
-ghost use Rattle.lane.specs.Held.{Held, Within};
+ghost use Rattle.rules.specs.Lanes.{lanesOf};
+ghost use Rattle.rules.specs.Bilinear.{blendOf, weightsOf, squareAt, cornersAlpha};
+ghost use Rattle.rules.proofs.RefusingLookups.{Coordinates};
+ghost use Rattle.lane.specs.Held.{Sized, Within};
+ghost use Rattle.lane.specs.Reading.{squaresOf, AllWithin, blendedRgb, blendedAlpha};
 
-// Four colours, each channel blended by the products of the weights.
-fn blend_rgb(w: Weights, p00: Rgb, p10: Rgb, p01: Rgb, p11: Rgb) -> Rgb
-    ensures { λ r. ⌜ r ≡ blendRgb w p00 p10 p01 p11 ⌝ }
+// The products of four lanes' weights.
+struct FourWeights {
+    a: Weights,
+    b: Weights,
+    c: Weights,
+    d: Weights,
+}
+
+// The places of four lanes, each on its own face.
+pub fn squares(p: Plane, faces: Wholes, s: Mode, t: Mode, u: Lanes, v: Lanes) -> Squares
+    requires { ⌜ Sized p × Coordinates u v ⌝ }
+    ensures { λ r. ⌜ r ≡ squaresOf (squareAt p (faces .a) s t (u .a) (v .a)) (squareAt p (faces .b) s t (u .b) (v .b)) (squareAt p (faces .c) s t (u .c) (v .c)) (squareAt p (faces .d) s t (u .d) (v .d)) ⌝ }
 {
-    Rgb {
-        r: blend(w, p00.r, p10.r, p01.r, p11.r),
-        g: blend(w, p00.g, p10.g, p01.g, p11.g),
-        b: blend(w, p00.b, p10.b, p01.b, p11.b),
+    let a = square(p, faces.a as usize, s, t, u.a, v.a);
+    let b = square(p, faces.b as usize, s, t, u.b, v.b);
+    let c = square(p, faces.c as usize, s, t, u.c, v.c);
+    let d = square(p, faces.d as usize, s, t, u.d, v.d);
+    all_squares(a, b, c, d)
+}
+
+// One channel of four lanes, each blended by its own weights.
+fn blend_lanes(w: FourWeights, p00: Lanes, p10: Lanes, p01: Lanes, p11: Lanes) -> Lanes
+    ensures { λ r. ⌜ r ≡ lanesOf (blendOf (w .a) (p00 .a) (p10 .a) (p01 .a) (p11 .a)) (blendOf (w .b) (p00 .b) (p10 .b) (p01 .b) (p11 .b)) (blendOf (w .c) (p00 .c) (p10 .c) (p01 .c) (p11 .c)) (blendOf (w .d) (p00 .d) (p10 .d) (p01 .d) (p11 .d)) ⌝ }
+{
+    Lanes {
+        a: blend(w.a, p00.a, p10.a, p01.a, p11.a),
+        b: blend(w.b, p00.b, p10.b, p01.b, p11.b),
+        c: blend(w.c, p00.c, p10.c, p01.c, p11.c),
+        d: blend(w.d, p00.d, p10.d, p01.d, p11.d),
     }
 }
 
-// The colour of one lane, from its four places.
-fn corners_rgb(texels: &[u32], c: Corners) -> Rgb
-    requires { ⌜ Within (now texels) c ⌝ }
-    ensures { λ r. ⌜ r ≡ cornersRgb (now (texels .entry)) c ⌝ }
+// The colours of four lanes, from their places: all first corners are read, then all second ones, and each channel is blended.
+pub fn squares_rgb(texels: &[u32], f: FourCorners) -> Directions
+    requires { ⌜ AllWithin (now texels) f ⌝ }
+    ensures { λ r. ⌜ r ≡ blendedRgb (now (texels .entry)) f ⌝ }
 {
-    let w = weigh(c.fx, c.fy);
-    let p00 = rgb_at(texels, c.p00);
-    let p10 = rgb_at(texels, c.p10);
-    let p01 = rgb_at(texels, c.p01);
-    let p11 = rgb_at(texels, c.p11);
-    blend_rgb(w, p00, p10, p01, p11)
+    let w = FourWeights {
+        a: weigh(f.a.fx, f.a.fy),
+        b: weigh(f.b.fx, f.b.fy),
+        c: weigh(f.c.fx, f.c.fy),
+        d: weigh(f.d.fx, f.d.fy),
+    };
+    let p00 = rgb_four(
+        texels,
+        Four {
+            a: f.a.p00,
+            b: f.b.p00,
+            c: f.c.p00,
+            d: f.d.p00,
+        },
+    );
+    let p10 = rgb_four(
+        texels,
+        Four {
+            a: f.a.p10,
+            b: f.b.p10,
+            c: f.c.p10,
+            d: f.d.p10,
+        },
+    );
+    let p01 = rgb_four(
+        texels,
+        Four {
+            a: f.a.p01,
+            b: f.b.p01,
+            c: f.c.p01,
+            d: f.d.p01,
+        },
+    );
+    let p11 = rgb_four(
+        texels,
+        Four {
+            a: f.a.p11,
+            b: f.b.p11,
+            c: f.c.p11,
+            d: f.d.p11,
+        },
+    );
+    Directions {
+        x: blend_lanes(w, p00.x, p10.x, p01.x, p11.x),
+        y: blend_lanes(w, p00.y, p10.y, p01.y, p11.y),
+        z: blend_lanes(w, p00.z, p10.z, p01.z, p11.z),
+    }
 }
 
 // The alpha of one lane, from its four places.
@@ -56,26 +121,15 @@ fn corners_alpha(texels: &[u32], c: Corners) -> f32
     blend_alpha(c.fx, c.fy, p00, p10, p01, p11)
 }
 
-// One lane's colour.
-pub fn bilinear_rgb(texels: &[u32], p: Plane, face: u32, s: Mode, t: Mode, u: f32, v: f32) -> Pixel
-    requires { ⌜ Held (now texels) p × (coordinateTaken u ≡ true) × (coordinateTaken v ≡ true) ⌝ }
-    ensures { λ r. ⌜ r ≡ bilinearRgb (now (texels .entry)) p face s t u v ⌝ }
+// The alphas of four lanes, from their places.
+pub fn squares_alpha(texels: &[u32], f: FourCorners) -> Lanes
+    requires { ⌜ AllWithin (now texels) f ⌝ }
+    ensures { λ r. ⌜ r ≡ blendedAlpha (now (texels .entry)) f ⌝ }
 {
-    let found = square(p, face as usize, s, t, u, v);
-    let Square::At(c) = found else {
-        return Pixel::Refused(square_number(found));
-    };
-    Pixel::Of(corners_rgb(texels, c))
-}
-
-// One lane's alpha.
-pub fn bilinear_alpha(texels: &[u32], p: Plane, s: Mode, t: Mode, u: f32, v: f32) -> Value
-    requires { ⌜ Held (now texels) p × (coordinateTaken u ≡ true) × (coordinateTaken v ≡ true) ⌝ }
-    ensures { λ r. ⌜ r ≡ bilinearAlpha (now (texels .entry)) p s t u v ⌝ }
-{
-    let found = square(p, 0, s, t, u, v);
-    let Square::At(c) = found else {
-        return Value::Refused(square_number(found));
-    };
-    Value::Of(corners_alpha(texels, c))
+    Lanes {
+        a: corners_alpha(texels, f.a),
+        b: corners_alpha(texels, f.b),
+        c: corners_alpha(texels, f.c),
+        d: corners_alpha(texels, f.d),
+    }
 }

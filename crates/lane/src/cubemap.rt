@@ -1,26 +1,30 @@
 // The cubemap lookup: the nearest texel of the face that a direction meets.
-use crate::number::place_number;
-use crate::pixel::rgb_at;
 use crate::plane::lowered;
+use crate::reading::Reading;
+use crate::reading::all_places;
+use crate::spots::spot_a;
+use crate::spots::spot_b;
+use crate::spots::spot_c;
+use crate::spots::spot_d;
 use places::cube::cube_texel;
-use places::face::spot;
 use places::place::place;
-use rules::Pixel;
 use rules::Place;
 use rules::Plane;
 use rules::Spot;
+use rules::Spots;
+use rules::Wholes;
 ghost use mathlib.Core.Path.{_≡_};
-ghost use mathlib.Core.Bool.{true};
-ghost use lib.ListN.{length};
-ghost use Rattle.rules.specs.Kinds.{cubemap};
-ghost use Rattle.rules.specs.Faces.{directionTaken};
-ghost use Rattle.rules.specs.Cubemap.{cubePlace, spotRgb, cubemapRgb};
-ghost use Rattle.rules.proofs.Refusing.{Chained};
+ghost use Rattle.rules.specs.Kinds.{cubemap, facesOf};
+ghost use Rattle.rules.specs.Cubemap.{cubePlace};
+ghost use Rattle.rules.proofs.Refusing.{Taken};
 ghost use Rattle.places.specs.Spots.{OnCube};
-ghost use Rattle.lane.specs.Held.{Sized, Held};
+ghost use Rattle.levels.specs.Starts.{Started};
+ghost use Rattle.lane.specs.Cubes.{loweredPlace, spotA, spotB, spotC, spotD, AllOnCube};
+ghost use Rattle.lane.specs.Held.{Sized};
+ghost use Rattle.lane.specs.Reading.{readingOf};
 
 // The place of the nearest texel on a face.
-fn cube_place(p: Plane, s: Spot) -> Place
+pub fn cube_place(p: Plane, s: Spot) -> Place
     requires { ⌜ Sized p × OnCube s ⌝ }
     ensures { λ r. ⌜ r ≡ cubePlace p s ⌝ }
 {
@@ -29,30 +33,22 @@ fn cube_place(p: Plane, s: Spot) -> Place
     place(p, s.face as usize, x, y)
 }
 
-// The colour at a place on the cube.
-pub fn spot_rgb(texels: &[u32], p: Plane, s: Spot) -> Pixel
-    requires { ⌜ Held (now texels) p × OnCube s ⌝ }
-    ensures { λ r. ⌜ r ≡ spotRgb (now (texels .entry)) p s ⌝ }
+// The same at a level, which is lowered to the top level.
+fn lowered_place(starts: &[usize], width: u32, height: u32, s: Spot, level: u32) -> Place
+    requires { ⌜ Taken cubemap width height × Started (facesOf cubemap) width height (now starts) × OnCube s ⌝ }
+    ensures { λ r. ⌜ r ≡ loweredPlace width height s level ⌝ }
 {
-    let found = cube_place(p, s);
-    let Place::At(i) = found else {
-        return Pixel::Refused(place_number(found));
-    };
-    Pixel::Of(rgb_at(texels, i))
+    cube_place(lowered(starts, width, height, level), s)
 }
 
-// One lane's colour: the level is lowered to the top level.
-pub fn cubemap_rgb(
-    texels: &[u32],
-    width: u32,
-    height: u32,
-    x: f32,
-    y: f32,
-    z: f32,
-    level: u32,
-) -> Pixel
-    requires { ⌜ Chained cubemap width height (length (now texels)) × (directionTaken x y z ≡ true) ⌝ }
-    ensures { λ r. ⌜ r ≡ cubemapRgb (now (texels .entry)) width height x y z level ⌝ }
+// The places of four lanes, each at its own level.
+pub fn cube_places(starts: &[usize], width: u32, height: u32, s: Spots, levels: Wholes) -> Reading
+    requires { ⌜ Taken cubemap width height × Started (facesOf cubemap) width height (now starts) × AllOnCube s ⌝ }
+    ensures { λ r. ⌜ r ≡ readingOf (loweredPlace width height (spotA s) (levels .a)) (loweredPlace width height (spotB s) (levels .b)) (loweredPlace width height (spotC s) (levels .c)) (loweredPlace width height (spotD s) (levels .d)) ⌝ }
 {
-    spot_rgb(texels, lowered(width, height, level), spot(x, y, z))
+    let a = lowered_place(starts, width, height, spot_a(s), levels.a);
+    let b = lowered_place(starts, width, height, spot_b(s), levels.b);
+    let c = lowered_place(starts, width, height, spot_c(s), levels.c);
+    let d = lowered_place(starts, width, height, spot_d(s), levels.d);
+    all_places(a, b, c, d)
 }

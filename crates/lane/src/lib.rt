@@ -1,4 +1,4 @@
-// One lane of each lookup: its place in the chain, the texels that are read there, and what they make.
+// The lookups' parts: each lane's place in the chain, the texels that are read there, and what they make.
 pub mod bilinear;
 mod corners;
 pub mod cubemap;
@@ -6,4 +6,6 @@ pub mod nearest;
 pub mod number;
 pub mod pixel;
 pub mod plane;
+pub mod reading;
+pub mod spots;
 pub mod trilinear;

@@ -1,10 +1,12 @@
 // The refusal number that an answer passes on, 0 where the answer is given.
-use rules::Pixel;
+use crate::reading::Reading;
+use crate::reading::Squares;
+use crate::trilinear::Between;
 use rules::Place;
 use rules::Square;
-use rules::Value;
 ghost use mathlib.Core.Path.{_≡_};
-ghost use Rattle.lane.specs.Numbers.{placeNumber, squareNumber, pixelNumber, valueNumber};
+ghost use Rattle.lane.specs.Cubes.{betweenNumber};
+ghost use Rattle.lane.specs.Numbers.{placeNumber, squareNumber, readingNumber, squaresNumber};
 
 // Of a place.
 pub fn place_number(found: Place) -> u32
@@ -26,22 +28,32 @@ pub fn square_number(found: Square) -> u32
     }
 }
 
-// Of one lane's colour.
-pub fn pixel_number(found: Pixel) -> u32
-    ensures { λ r. ⌜ r ≡ pixelNumber found ⌝ }
+// Of the places of four lanes.
+pub fn reading_number(found: Reading) -> u32
+    ensures { λ r. ⌜ r ≡ readingNumber found ⌝ }
 {
     match found {
-        Pixel::Of(_) => 0,
-        Pixel::Refused(n) => n,
+        Reading::At(_) => 0,
+        Reading::Refused(n) => n,
     }
 }
 
-// Of one lane's number.
-pub fn value_number(found: Value) -> u32
-    ensures { λ r. ⌜ r ≡ valueNumber found ⌝ }
+// Of the places of four bilinear lookups.
+pub fn squares_number(found: Squares) -> u32
+    ensures { λ r. ⌜ r ≡ squaresNumber found ⌝ }
 {
     match found {
-        Value::Of(_) => 0,
-        Value::Refused(n) => n,
+        Squares::At(_) => 0,
+        Squares::Refused(n) => n,
+    }
+}
+
+// Of the places of a trilinear lookup.
+pub fn between_number(found: Between) -> u32
+    ensures { λ r. ⌜ r ≡ betweenNumber found ⌝ }
+{
+    match found {
+        Between::At(_) => 0,
+        Between::Refused(n) => n,
     }
 }

@@ -1,4 +1,5 @@
 // What a texel is to a lookup: its channels unpacked.
+use crate::reading::Four;
 use rules::Directions;
 use rules::Lanes;
 use rules::Rgb;
@@ -12,6 +13,7 @@ ghost use Prim.Native.Nat.{_<_};
 ghost use lib.ListN.{length, getD};
 ghost use Rattle.rules.specs.Lanes.{rgbLanes};
 ghost use Rattle.rules.specs.Places.{rgbOf, opacityOf};
+ghost use Rattle.lane.specs.Reading.{Inside, readRgb, readAlpha};
 
 // A texel's colour.
 pub fn rgb(texel: u32) -> Rgb
@@ -32,7 +34,7 @@ pub fn opacity(texel: u32) -> f32
 }
 
 // The colour of the texel at a place.
-pub fn rgb_at(texels: &[u32], place: usize) -> Rgb
+fn rgb_at(texels: &[u32], place: usize) -> Rgb
     requires { ⌜ place < length (now texels) ⌝ }
     ensures { λ r. ⌜ r ≡ rgbOf (getD (now (texels .entry)) place 0) ⌝ }
 {
@@ -48,7 +50,7 @@ pub fn opacity_at(texels: &[u32], place: usize) -> f32
 }
 
 // Four colours, lane by lane.
-pub fn rgb_lanes(p: Rgb, q: Rgb, r: Rgb, s: Rgb) -> Directions
+fn rgb_lanes(p: Rgb, q: Rgb, r: Rgb, s: Rgb) -> Directions
     ensures { λ d. ⌜ d ≡ rgbLanes p q r s ⌝ }
 {
     Directions {
@@ -70,5 +72,30 @@ pub fn rgb_lanes(p: Rgb, q: Rgb, r: Rgb, s: Rgb) -> Directions
             c: r.b,
             d: s.b,
         },
+    }
+}
+
+// The colours of four lanes, from their places.
+pub fn rgb_four(texels: &[u32], at: Four) -> Directions
+    requires { ⌜ Inside (now texels) at ⌝ }
+    ensures { λ r. ⌜ r ≡ readRgb (now (texels .entry)) at ⌝ }
+{
+    let a = rgb_at(texels, at.a);
+    let b = rgb_at(texels, at.b);
+    let c = rgb_at(texels, at.c);
+    let d = rgb_at(texels, at.d);
+    rgb_lanes(a, b, c, d)
+}
+
+// The alphas of four lanes, from their places.
+pub fn opacity_four(texels: &[u32], at: Four) -> Lanes
+    requires { ⌜ Inside (now texels) at ⌝ }
+    ensures { λ r. ⌜ r ≡ readAlpha (now (texels .entry)) at ⌝ }
+{
+    Lanes {
+        a: opacity_at(texels, at.a),
+        b: opacity_at(texels, at.b),
+        c: opacity_at(texels, at.c),
+        d: opacity_at(texels, at.d),
     }
 }

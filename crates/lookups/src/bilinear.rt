@@ -2,18 +2,16 @@
 use crate::modes::mode_of;
 use crate::refusals::bilinear_alpha_refusal;
 use crate::refusals::bilinear_rgb_refusal;
-use lane::bilinear::bilinear_alpha;
-use lane::bilinear::bilinear_rgb;
-use lane::number::pixel_number;
-use lane::number::value_number;
-use lane::pixel::rgb_lanes;
+use lane::bilinear::squares;
+use lane::bilinear::squares_alpha;
+use lane::bilinear::squares_rgb;
+use lane::number::squares_number;
 use lane::plane::plane;
+use lane::reading::Squares;
 use rules::Alpha;
 use rules::Colour;
 use rules::Lanes;
-use rules::Pixel;
 use rules::Sampler;
-use rules::Value;
 use rules::Wholes;
 ghost use mathlib.Core.Path.{_≡_};
 ghost use Rattle.rules.specs.Answers.{bilinearRgbAnswer, bilinearAlphaAnswer};
@@ -32,6 +30,7 @@ pub fn sample_bilinear_rgb(
 ) -> Colour
     ensures answer { λ r. ⌜ r ≡ bilinearRgbAnswer kind width height (now (texels .entry)) sampler u v level faces ⌝ }
 {
+    let mut starts = [0usize; 13];
     let refusal = bilinear_rgb_refusal(
         kind,
         width,
@@ -42,30 +41,19 @@ pub fn sample_bilinear_rgb(
         v,
         level,
         faces,
+        &mut starts,
     );
     if refusal != 0 {
         return Colour::Refused(refusal);
     }
-    let p = plane(kind, width, height, level);
+    let p = plane(&starts, kind, width, height, level);
     let s = mode_of(sampler.wrap_s);
     let t = mode_of(sampler.wrap_t);
-    let lane_a = bilinear_rgb(texels, p, faces.a, s, t, u.a, v.a);
-    let Pixel::Of(a) = lane_a else {
-        return Colour::Refused(pixel_number(lane_a));
+    let found = squares(p, faces, s, t, u, v);
+    let Squares::At(at) = found else {
+        return Colour::Refused(squares_number(found));
     };
-    let lane_b = bilinear_rgb(texels, p, faces.b, s, t, u.b, v.b);
-    let Pixel::Of(b) = lane_b else {
-        return Colour::Refused(pixel_number(lane_b));
-    };
-    let lane_c = bilinear_rgb(texels, p, faces.c, s, t, u.c, v.c);
-    let Pixel::Of(c) = lane_c else {
-        return Colour::Refused(pixel_number(lane_c));
-    };
-    let lane_d = bilinear_rgb(texels, p, faces.d, s, t, u.d, v.d);
-    let Pixel::Of(d) = lane_d else {
-        return Colour::Refused(pixel_number(lane_d));
-    };
-    Colour::Rgb(rgb_lanes(a, b, c, d))
+    Colour::Rgb(squares_rgb(texels, at))
 }
 
 // The alphas of four lanes at a level, blended from the four texels around the coordinate.
@@ -81,28 +69,33 @@ pub fn sample_bilinear_alpha(
 ) -> Alpha
     ensures answer { λ r. ⌜ r ≡ bilinearAlphaAnswer kind width height (now (texels .entry)) sampler u v level ⌝ }
 {
-    let refusal = bilinear_alpha_refusal(kind, width, height, texels.len(), sampler, u, v, level);
+    let mut starts = [0usize; 13];
+    let refusal = bilinear_alpha_refusal(
+        kind,
+        width,
+        height,
+        texels.len(),
+        sampler,
+        u,
+        v,
+        level,
+        &mut starts,
+    );
     if refusal != 0 {
         return Alpha::Refused(refusal);
     }
-    let p = plane(kind, width, height, level);
+    let p = plane(&starts, kind, width, height, level);
     let s = mode_of(sampler.wrap_s);
     let t = mode_of(sampler.wrap_t);
-    let lane_a = bilinear_alpha(texels, p, s, t, u.a, v.a);
-    let Value::Of(a) = lane_a else {
-        return Alpha::Refused(value_number(lane_a));
+    let first = Wholes {
+        a: 0,
+        b: 0,
+        c: 0,
+        d: 0,
     };
-    let lane_b = bilinear_alpha(texels, p, s, t, u.b, v.b);
-    let Value::Of(b) = lane_b else {
-        return Alpha::Refused(value_number(lane_b));
+    let found = squares(p, first, s, t, u, v);
+    let Squares::At(at) = found else {
+        return Alpha::Refused(squares_number(found));
     };
-    let lane_c = bilinear_alpha(texels, p, s, t, u.c, v.c);
-    let Value::Of(c) = lane_c else {
-        return Alpha::Refused(value_number(lane_c));
-    };
-    let lane_d = bilinear_alpha(texels, p, s, t, u.d, v.d);
-    let Value::Of(d) = lane_d else {
-        return Alpha::Refused(value_number(lane_d));
-    };
-    Alpha::Of(Lanes { a, b, c, d })
+    Alpha::Of(squares_alpha(texels, at))
 }

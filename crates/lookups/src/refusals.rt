@@ -1,22 +1,24 @@
 // The refusal number of each call, before a texel is read: the numbers that fit its arguments, in their order. One bad lane
 // refuses all four.
-use levels::refusals::chain_refusal;
 use levels::refusals::face_refusal;
 use levels::refusals::level_refusal;
 use levels::refusals::no_cubemap_refusal;
 use levels::refusals::only_cubemap_refusal;
 use levels::refusals::or_else;
 use levels::refusals::sides_refusal;
+use levels::refusals::started_refusal;
 use places::refusals::coordinates_refusal;
-use places::refusals::directions_refusal;
 use places::refusals::finite_refusal;
 use places::refusals::sampler_refusal;
-use rules::Directions;
 use rules::Lanes;
 use rules::Sampler;
 use rules::Wholes;
 ghost use mathlib.Core.Path.{_≡_};
-ghost use Rattle.rules.specs.Refusals.{_orElse_, samplerRefusal, levelRefusal, coordinatesRefusal, facesRefusal, mipLevelRefusal, sample4Refusal, bilinearRgbRefusal, bilinearAlphaRefusal, cubemapRefusal, trilinearRefusal};
+ghost use Prim.Native.Nat.{_≤_};
+ghost use lib.ListN.{length};
+ghost use Rattle.rules.specs.Kinds.{facesOf};
+ghost use Rattle.rules.specs.Refusals.{_orElse_, samplerRefusal, levelRefusal, coordinatesRefusal, facesRefusal, onlyCubemapRefusal, chainRefusal, mipLevelRefusal, sample4Refusal, bilinearRgbRefusal, bilinearAlphaRefusal};
+ghost use Rattle.levels.specs.Starts.{Started};
 
 // compute_mip_level: 2, 5.
 pub fn mip_level_refusal(width: u32, height: u32, steps: Lanes) -> u32
@@ -27,7 +29,7 @@ pub fn mip_level_refusal(width: u32, height: u32, steps: Lanes) -> u32
     or_else(sides, numbers)
 }
 
-// sample4_rgb, sample4_alpha: 1, 2, 3, 8, 4, 5.
+// sample4_rgb, sample4_alpha: 1, 2, 3, 8, 4, 5. Here and below, where no number is given each level's start is written.
 pub fn sample4_refusal(
     kind: u32,
     width: u32,
@@ -37,10 +39,13 @@ pub fn sample4_refusal(
     u: Lanes,
     v: Lanes,
     steps: Lanes,
+    starts: &mut [usize],
 ) -> u32
-    ensures { λ r. ⌜ r ≡ sample4Refusal kind width height n sampler u v steps ⌝ }
+    requires { ⌜ 13 ≤ length (now starts) ⌝ }
+    ensures number { λ r. ⌜ r ≡ sample4Refusal kind width height n sampler u v steps ⌝ }
+    ensures starts { λ r. ⌜ ((r ≡ 0) → Started (facesOf kind) width height (now (starts .exit))) ⌝ }
 {
-    let chain = chain_refusal(kind, width, height, n);
+    let chain = started_refusal(kind, width, height, n, starts);
     let cube = no_cubemap_refusal(kind);
     let codes = sampler_refusal(sampler);
     let coordinates = coordinates_refusal(u, v);
@@ -83,10 +88,13 @@ pub fn bilinear_rgb_refusal(
     v: Lanes,
     level: u32,
     faces: Wholes,
+    starts: &mut [usize],
 ) -> u32
-    ensures { λ r. ⌜ r ≡ bilinearRgbRefusal kind width height n sampler u v level faces ⌝ }
+    requires { ⌜ 13 ≤ length (now starts) ⌝ }
+    ensures number { λ r. ⌜ r ≡ bilinearRgbRefusal kind width height n sampler u v level faces ⌝ }
+    ensures starts { λ r. ⌜ ((r ≡ 0) → Started (facesOf kind) width height (now (starts .exit))) ⌝ }
 {
-    let chain = chain_refusal(kind, width, height, n);
+    let chain = started_refusal(kind, width, height, n, starts);
     let face = faces_refusal(kind, faces);
     let rest = blended_refusal(width, height, sampler, u, v, level);
     or_else(chain, or_else(face, rest))
@@ -102,37 +110,25 @@ pub fn bilinear_alpha_refusal(
     u: Lanes,
     v: Lanes,
     level: u32,
+    starts: &mut [usize],
 ) -> u32
-    ensures { λ r. ⌜ r ≡ bilinearAlphaRefusal kind width height n sampler u v level ⌝ }
+    requires { ⌜ 13 ≤ length (now starts) ⌝ }
+    ensures number { λ r. ⌜ r ≡ bilinearAlphaRefusal kind width height n sampler u v level ⌝ }
+    ensures starts { λ r. ⌜ ((r ≡ 0) → Started (facesOf kind) width height (now (starts .exit))) ⌝ }
 {
-    let chain = chain_refusal(kind, width, height, n);
+    let chain = started_refusal(kind, width, height, n, starts);
     let cube = no_cubemap_refusal(kind);
     let rest = blended_refusal(width, height, sampler, u, v, level);
     or_else(chain, or_else(cube, rest))
 }
 
-// sample_cubemap_rgb: 1, 2, 3, 8, 7.
-pub fn cubemap_refusal(kind: u32, width: u32, height: u32, n: usize, directions: Directions) -> u32
-    ensures { λ r. ⌜ r ≡ cubemapRefusal kind width height n directions ⌝ }
+// What sample_cubemap_rgb and sample_cubemap_trilinear_rgb look at before their directions: 1, 2, 3, 8.
+pub fn cube_refusal(kind: u32, width: u32, height: u32, n: usize, starts: &mut [usize]) -> u32
+    requires { ⌜ 13 ≤ length (now starts) ⌝ }
+    ensures number { λ r. ⌜ r ≡ (chainRefusal kind width height n orElse onlyCubemapRefusal kind) ⌝ }
+    ensures starts { λ r. ⌜ ((r ≡ 0) → Started (facesOf kind) width height (now (starts .exit))) ⌝ }
 {
-    let chain = chain_refusal(kind, width, height, n);
+    let chain = started_refusal(kind, width, height, n, starts);
     let flat = only_cubemap_refusal(kind);
-    let direction = directions_refusal(directions);
-    or_else(chain, or_else(flat, direction))
-}
-
-// sample_cubemap_trilinear_rgb: 1, 2, 3, 8, 7, 5.
-pub fn trilinear_refusal(
-    kind: u32,
-    width: u32,
-    height: u32,
-    n: usize,
-    directions: Directions,
-    levels: Lanes,
-) -> u32
-    ensures { λ r. ⌜ r ≡ trilinearRefusal kind width height n directions levels ⌝ }
-{
-    let cube = cubemap_refusal(kind, width, height, n, directions);
-    let numbers = finite_refusal(levels);
-    or_else(cube, numbers)
+    or_else(chain, flat)
 }

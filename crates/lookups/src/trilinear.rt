@@ -1,16 +1,22 @@
 // The trilinear cubemap lookup of four lanes, each between two levels of its own.
-use crate::refusals::trilinear_refusal;
-use lane::number::pixel_number;
-use lane::pixel::rgb_lanes;
-use lane::trilinear::trilinear_rgb;
+use crate::facing::faced;
+use crate::facing::facing_number;
+use crate::refusals::cube_refusal;
+use lane::number::between_number;
+use lane::trilinear::Between;
+use lane::trilinear::lerp_four;
+use lane::trilinear::level_places;
+use lane::trilinear::two_levels;
+use levels::sizes::top_level;
+use places::refusals::finite_refusal;
 use rules::Colour;
 use rules::Directions;
+use rules::Facing;
 use rules::Lanes;
-use rules::Pixel;
 ghost use mathlib.Core.Path.{_≡_};
 ghost use Rattle.rules.specs.Answers.{trilinearAnswer};
 
-// The colours of four lanes, each between the two levels around its own fractional level.
+// The colours of four lanes, each blended from the two levels around its fractional level.
 pub fn sample_cubemap_trilinear_rgb(
     kind: u32,
     width: u32,
@@ -21,28 +27,23 @@ pub fn sample_cubemap_trilinear_rgb(
 ) -> Colour
     ensures answer { λ r. ⌜ r ≡ trilinearAnswer kind width height (now (texels .entry)) directions levels ⌝ }
 {
-    let refusal = trilinear_refusal(kind, width, height, texels.len(), directions, levels);
+    let mut starts = [0usize; 13];
+    let refusal = cube_refusal(kind, width, height, texels.len(), &mut starts);
     if refusal != 0 {
         return Colour::Refused(refusal);
     }
-    let x = directions.x;
-    let y = directions.y;
-    let z = directions.z;
-    let lane_a = trilinear_rgb(texels, width, height, x.a, y.a, z.a, levels.a);
-    let Pixel::Of(a) = lane_a else {
-        return Colour::Refused(pixel_number(lane_a));
+    let facing = faced(directions);
+    let Facing::On(s) = facing else {
+        return Colour::Refused(facing_number(facing));
     };
-    let lane_b = trilinear_rgb(texels, width, height, x.b, y.b, z.b, levels.b);
-    let Pixel::Of(b) = lane_b else {
-        return Colour::Refused(pixel_number(lane_b));
+    let numbers = finite_refusal(levels);
+    if numbers != 0 {
+        return Colour::Refused(numbers);
+    }
+    let m = two_levels(levels, top_level(width, height) as usize);
+    let found = level_places(&starts, width, height, s, m);
+    let Between::At(at) = found else {
+        return Colour::Refused(between_number(found));
     };
-    let lane_c = trilinear_rgb(texels, width, height, x.c, y.c, z.c, levels.c);
-    let Pixel::Of(c) = lane_c else {
-        return Colour::Refused(pixel_number(lane_c));
-    };
-    let lane_d = trilinear_rgb(texels, width, height, x.d, y.d, z.d, levels.d);
-    let Pixel::Of(d) = lane_d else {
-        return Colour::Refused(pixel_number(lane_d));
-    };
-    Colour::Rgb(rgb_lanes(a, b, c, d))
+    Colour::Rgb(lerp_four(texels, at, m))
 }

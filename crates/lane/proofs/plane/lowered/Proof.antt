@@ -13,11 +13,14 @@ smaller-requires c κs = search needs
 
 plane-requires : tie.Need-plane-requires
 plane-requires c κs =
-    let s = c .before .before in
-    omega (arith, s .pre, c .smaller .ensures, c .before .top-level .ensures, top-most (s .args .width) (s .args .height) (omega arith) (omega arith) (omega arith))
+    let s = c .before .before .before in (
+      s .pre .0,
+      omega (arith, c .smaller .ensures, c .before .top-level .ensures),
+      omega (arith, s .pre, c .smaller .ensures, c .before .top-level .ensures, top-most (s .args .width) (s .args .height) (s .pre .1) (s .pre .2) (s .pre .3)),
+    )
 
 returns : tie.Need-returns
-returns c = cc
+returns c = rw (c .plane .ensures, c .before .smaller .ensures, c .before .before .top-level .ensures)
 
 pub lowered-spec : {M : Type 1} → statement M
 lowered-spec = tie.close (tie.spec top-level-requires smaller-requires plane-requires returns)

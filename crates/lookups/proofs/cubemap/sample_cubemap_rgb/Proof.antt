@@ -1,176 +1,132 @@
--- `lookups::cubemap::sample_cubemap_rgb` meets its contract: past the refusals the answer is four cubemap lookups, and the
--- first lane that refuses is passed on. Assumes nothing.
-use mathlib.Core.Path.{_≡_, sym, ap, _∙_}
-use borrow.Author.Needs.{needs}
-use Prim.Native.Nat.{ℕ}
+-- `lookups::cubemap::sample_cubemap_rgb` meets its contract: past the refusals the answer comes from the places that it reads. Assumes nothing.
+use mathlib.Core.Path.{_≡_, refl, sym, ap, _∙_}
 use lib.ListN.{length}
-use lib.Ieee.{Float}
-use Rattle.rules.specs.declared.Pixel.{Pixel}
-use Rattle.rules.specs.declared.Pixel.the-variants.{Of}
 use Rattle.rules.specs.declared.Colour.the-variants.{Rgb}
-use Rattle.rules.specs.Lanes.{fourPixels}
-use Rattle.rules.specs.Cubemap.{cubemapRgb}
+use Rattle.rules.specs.Refusals.{directionsRefusal, cubemapRefusal}
 use Rattle.rules.specs.Answers.{cubemapAnswer}
 use Rattle.rules.proofs.RefusingLookups.{Cubed, cubemap-facts}
+use Rattle.lane.specs.Cubes.{AllOnCube, spotA, spotB, spotC, spotD, loweredPlace}
+use Rattle.lane.specs.Reading.{readingOf, readRgb, readingColour}
+use Rattle.lane.proofs.Holding.{lowered-held, cube-below}
+use Rattle.lane.proofs.Passing.{reading-passed}
+use Rattle.lane.proofs.Together.{reading-inside}
 use Rattle.lookups.proofs.Holding.{cube-chained}
-use Rattle.lane.proofs.Passing.{pixel-passed}
 use Rattle.lookups.proofs.Passing.{refuses, gives}
+use Rattle.lookups.proofs.Answering.{cube-early, cube-late, facing-on, facing-off, facing-passed, spotsAt, cubemap-read}
+use borrow.Author.Needs.{needs}
 use Rattle.lookups.proofs.cubemap.sample_cubemap_rgb.Statement.{statement}
 use Rattle.lookups.proofs.cubemap.sample_cubemap_rgb.Tie as tie
 
+-- where nothing is refused before the directions, they decide
+late : (c : tie.Else1) → let a = c .before .before .before .before .before .args in cubemapRefusal (a .kind) (a .width) (a .height) (length (a .texels .now)) (a .directions) ≡ directionsRefusal (a .directions)
+late c = cube-late _ _ _ _ _ (sym (c .before .before .cube-refusal .ensures .0) ∙ c .if1 .left)
+
 -- past the refusals
-facts : (c : tie.Else1) → let a = c .before .before .before .args in Cubed (a .kind) (a .width) (a .height) (length (a .texels .now)) (a .directions)
-facts c = cubemap-facts _ _ _ _ _ (sym (c .before .cubemap-refusal .ensures) ∙ c .if1 .left)
+module _ (c : tie.After-known-told) where
+  abbrev past : tie.Else1
+  past = c .before .before .before .before
 
--- where the lanes start: the arguments, and one lane
-abbrev before : (c : tie.After-z) → tie.Else1
-before c = c .before .before .before
+  on : let a = past .before .before .before .before .before .args in (directionsRefusal (a .directions) ≡ 0) × (c .before .facing .given .0 .0 ≡ spotsAt (a .directions))
+  on = facing-on _ (sym (c .before .before .before .faced .ensures .0) ∙ c .before .facing .given .1)
 
-abbrev lane : tie.After-z → Float → Float → Float → ℕ → Pixel
-lane c x y z m = let a = c .before .before .before .before .before .before .args in cubemapRgb (a .texels .now) (a .width) (a .height) x y z m
+  none : let a = past .before .before .before .before .before .args in cubemapRefusal (a .kind) (a .width) (a .height) (length (a .texels .now)) (a .directions) ≡ 0
+  none = late past ∙ on .0
 
-answered : (c : tie.After-z) → let a = c .before .before .before .before .before .before .args in let n = a .directions in cubemapAnswer (a .kind) (a .width) (a .height) (a .texels .now) n (a .levels) ≡ fourPixels (lane c (n .x .a) (n .y .a) (n .z .a) (a .levels .a)) (lane c (n .x .b) (n .y .b) (n .z .b) (a .levels .b)) (lane c (n .x .c) (n .y .c) (n .z .c) (a .levels .c)) (lane c (n .x .d) (n .y .d) (n .z .d) (a .levels .d))
-unfolding cubemapAnswer
-answered c = gives _ _ (c .before .before .before .before .cubemap-refusal .ensures) (c .before .before .before .if1 .left)
+  cubed : let a = past .before .before .before .before .before .args in Cubed (a .kind) (a .width) (a .height) (length (a .texels .now)) (a .directions)
+  cubed = cubemap-facts _ _ _ _ _ none
 
--- the colours, as the lookups found them
-abbrev lanes-a : tie.After-known-told → tie.After-z
-lanes-a c = c .before .before .before .before
+  lies : AllOnCube (c .before .facing .given .0 .0)
+  lies = c .before .before .before .faced .ensures .1 _ (c .before .facing .given .1)
 
-found-a : (c : tie.After-known-told) → let a = before (lanes-a c) .before .before .before .args in lane (lanes-a c) (a .directions .x .a) (a .directions .y .a) (a .directions .z .a) (a .levels .a) ≡ Of (c .before .lane-a .given .0 .0)
-found-a c = sym (c .before .before .before .cubemap-rgb .ensures) ∙ c .before .lane-a .given .1
+  answered : let a = past .before .before .before .before .before .args in let s = c .before .facing .given .0 .0 in let w = a .width in let h = a .height in cubemapAnswer (a .kind) w h (a .texels .now) (a .directions) (a .levels) ≡ readingColour (readingOf (loweredPlace w h (spotA s) (a .levels .a)) (loweredPlace w h (spotB s) (a .levels .b)) (loweredPlace w h (spotC s) (a .levels .c)) (loweredPlace w h (spotD s) (a .levels .d))) (readRgb (a .texels .now))
+  unfolding cubemapAnswer
+  answered = gives _ _ refl none ∙ cubemap-read _ _ _ _ (on .1) _
 
-abbrev lanes-b : tie.After-known-told2 → tie.After-z
-lanes-b c = lanes-a (c .before .before .before .before)
+slice-aggregate-cube-refusal : tie.Need-slice-aggregate-cube-refusal
+slice-aggregate-cube-refusal c = search needs
 
-found-b : (c : tie.After-known-told2) → let a = before (lanes-b c) .before .before .before .args in lane (lanes-b c) (a .directions .x .b) (a .directions .y .b) (a .directions .z .b) (a .levels .b) ≡ Of (c .before .lane-b .given .0 .0)
-found-b c = sym (c .before .before .before .cubemap-rgb2 .ensures) ∙ c .before .lane-b .given .1
-
-abbrev lanes-c : tie.After-known-told3 → tie.After-z
-lanes-c c = lanes-b (c .before .before .before .before)
-
-found-c : (c : tie.After-known-told3) → let a = before (lanes-c c) .before .before .before .args in lane (lanes-c c) (a .directions .x .c) (a .directions .y .c) (a .directions .z .c) (a .levels .c) ≡ Of (c .before .lane-c .given .0 .0)
-found-c c = sym (c .before .before .before .cubemap-rgb3 .ensures) ∙ c .before .lane-c .given .1
-
-cubemap-refusal-requires : tie.Need-cubemap-refusal-requires
-cubemap-refusal-requires c κs = search needs
+cube-refusal-requires : tie.Need-cube-refusal-requires
+cube-refusal-requires c κs = search needs
 
 returns : tie.Need-returns
 unfolding cubemapAnswer
-returns c = refuses _ _ (c .before .cubemap-refusal .ensures) (c .if1 .taken)
+returns c = let e = c .before .before .cube-refusal .ensures .0 in
+    refuses _ _ (e ∙ sym (cube-early _ _ _ _ _ (λ z. c .if1 .taken (e ∙ z)))) (c .if1 .taken)
 
-cubemap-rgb-requires : tie.Need-cubemap-rgb-requires
-cubemap-rgb-requires c κs = let f = facts (before c) in (cube-chained f, f .directions .a)
+faced-requires : tie.Need-faced-requires
+faced-requires c κs = search needs
 
-enum-known-lane-a : tie.Need-enum-known-lane-a
-enum-known-lane-a c = search needs
+enum-known-facing : tie.Need-enum-known-facing
+enum-known-facing c = search needs
 
 enum-told : tie.Need-enum-told
 enum-told c = search needs
 
-pixel-number-requires : tie.Need-pixel-number-requires
-pixel-number-requires c κs = search needs
+facing-number-requires : tie.Need-facing-number-requires
+facing-number-requires c κs = search needs
 
 returns-2 : tie.Need-returns-2
-unfolding fourPixels
-returns-2 c =
-    let k = c .before .before .before in
-    rw (answered (k .before), pixel-passed (k .cubemap-rgb .ensures) (c .before .enum-told .given .1) (c .pixel-number .ensures))
+unfolding cubemapAnswer
+returns-2 c = let k = c .before .before .before in
+    let f = facing-off _ (facing-passed (k .faced .ensures .0) (c .before .enum-told .given .1) (c .facing-number .ensures)) in
+    refuses _ _ (sym (late (k .before) ∙ f .0)) (f .1)
 
-cubemap-rgb-requires-2 : tie.Need-cubemap-rgb-requires-2
-cubemap-rgb-requires-2 c κs = let f = facts (before (lanes-a c)) in (cube-chained f, f .directions .b)
+slice-aggregate-cube-places : tie.Need-slice-aggregate-cube-places
+slice-aggregate-cube-places c = search needs
 
-enum-known-lane-b : tie.Need-enum-known-lane-b
-enum-known-lane-b c = search needs
+cube-places-requires : tie.Need-cube-places-requires
+cube-places-requires c κs =
+    let k = c .before in
+    let p = past k in
+    (cube-chained (cubed k) .taken, rw (← cubed k .cube) (p .before .before .cube-refusal .ensures .1 (p .if1 .left)), lies k)
+
+enum-known-found : tie.Need-enum-known-found
+enum-known-found c = search needs
 
 enum-told-2 : tie.Need-enum-told-2
 enum-told-2 c = search needs
 
-pixel-number-requires-2 : tie.Need-pixel-number-requires-2
-pixel-number-requires-2 c κs = search needs
+reading-number-requires : tie.Need-reading-number-requires
+reading-number-requires c κs = search needs
 
 returns-3 : tie.Need-returns-3
-unfolding fourPixels
-returns-3 c =
-    let k = c .before .before .before in
-    let a = k .before in
-    rw (answered (lanes-a a), found-a a, pixel-passed (k .cubemap-rgb2 .ensures) (c .before .enum-told2 .given .1) (c .pixel-number2 .ensures))
+returns-3 c = let k = c .before .before .before in
+    rw (answered (k .before .before), reading-passed (k .cube-places .ensures) (c .before .enum-told2 .given .1) (c .reading-number .ensures))
 
-cubemap-rgb-requires-3 : tie.Need-cubemap-rgb-requires-3
-cubemap-rgb-requires-3 c κs = let f = facts (before (lanes-b c)) in (cube-chained f, f .directions .c)
-
-enum-known-lane-c : tie.Need-enum-known-lane-c
-enum-known-lane-c c = search needs
-
-enum-told-3 : tie.Need-enum-told-3
-enum-told-3 c = search needs
-
-pixel-number-requires-3 : tie.Need-pixel-number-requires-3
-pixel-number-requires-3 c κs = search needs
+rgb-four-requires : tie.Need-rgb-four-requires
+rgb-four-requires c κs = let k = c .before .before .before in
+    let o = k .before .before in
+    let a = past o .before .before .before .before .before .args in
+    let chain = cube-chained (cubed o) in
+    reading-inside _ _ _ _
+    (λ i z. cube-below _ (lowered-held (a .texels .now) (a .levels .a) refl chain) z)
+    (λ i z. cube-below _ (lowered-held (a .texels .now) (a .levels .b) refl chain) z)
+    (λ i z. cube-below _ (lowered-held (a .texels .now) (a .levels .c) refl chain) z)
+    (λ i z. cube-below _ (lowered-held (a .texels .now) (a .levels .d) refl chain) z)
+    (sym (k .cube-places .ensures) ∙ c .before .found .given .1)
 
 returns-4 : tie.Need-returns-4
-unfolding fourPixels
-returns-4 c =
-    let k = c .before .before .before in
-    let b = k .before in
-    rw (answered (lanes-b b), found-a (b .before .before .before .before), found-b b, pixel-passed (k .cubemap-rgb3 .ensures) (c .before .enum-told3 .given .1) (c .pixel-number3 .ensures))
-
-cubemap-rgb-requires-4 : tie.Need-cubemap-rgb-requires-4
-cubemap-rgb-requires-4 c κs = let f = facts (before (lanes-c c)) in (cube-chained f, f .directions .d)
-
-enum-known-lane-d : tie.Need-enum-known-lane-d
-enum-known-lane-d c = search needs
-
-enum-told-4 : tie.Need-enum-told-4
-enum-told-4 c = search needs
-
-pixel-number-requires-4 : tie.Need-pixel-number-requires-4
-pixel-number-requires-4 c κs = search needs
-
-returns-5 : tie.Need-returns-5
-unfolding fourPixels
-returns-5 c =
-    let k = c .before .before .before in
-    let d = k .before in
-    let b = d .before .before .before .before in
-    rw (answered (lanes-c d), found-a (b .before .before .before .before), found-b b, found-c d, pixel-passed (k .cubemap-rgb4 .ensures) (c .before .enum-told4 .given .1) (c .pixel-number4 .ensures))
-
-rgb-lanes-requires : tie.Need-rgb-lanes-requires
-rgb-lanes-requires c κs = search needs
-
-returns-6 : tie.Need-returns-6
-unfolding fourPixels
-returns-6 c =
-    let k = c .before in
-    let d = k .before .before .before .before in
-    let b = d .before .before .before .before in
-    rw (answered (lanes-c d), found-a (b .before .before .before .before), found-b b, found-c d, sym (k .before .before .before .cubemap-rgb4 .ensures) ∙ k .before .lane-d .given .1) (ap Rgb (c .rgb-lanes .ensures))
+returns-4 c = let f = c .before .before in
+    let k = f .before .before in
+    rw (answered (k .before .before), sym (k .cube-places .ensures) ∙ f .found .given .1) (ap Rgb (c .rgb-four .ensures))
 
 pub sample-cubemap-rgb-spec : {M : Type 1} → statement M
 sample-cubemap-rgb-spec =
     tie.close
     (tie.spec
-    cubemap-refusal-requires
+    slice-aggregate-cube-refusal
+    cube-refusal-requires
     returns
-    cubemap-rgb-requires
-    enum-known-lane-a
+    faced-requires
+    enum-known-facing
     enum-told
-    pixel-number-requires
+    facing-number-requires
     returns-2
-    cubemap-rgb-requires-2
-    enum-known-lane-b
+    slice-aggregate-cube-places
+    cube-places-requires
+    enum-known-found
     enum-told-2
-    pixel-number-requires-2
+    reading-number-requires
     returns-3
-    cubemap-rgb-requires-3
-    enum-known-lane-c
-    enum-told-3
-    pixel-number-requires-3
-    returns-4
-    cubemap-rgb-requires-4
-    enum-known-lane-d
-    enum-told-4
-    pixel-number-requires-4
-    returns-5
-    rgb-lanes-requires
-    returns-6)
+    rgb-four-requires
+    returns-4)

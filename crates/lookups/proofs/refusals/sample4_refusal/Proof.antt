@@ -1,11 +1,13 @@
 -- `lookups::refusals::sample4_refusal` meets its contract. Assumes nothing.
+use mathlib.Core.Path.{sym, _∙_}
+use Rattle.rules.proofs.Refusing.{orElse-none}
 use Rattle.rules.specs.Refusals.{sample4Refusal}
 use borrow.Author.Needs.{needs}
 use Rattle.lookups.proofs.refusals.sample4_refusal.Statement.{statement}
 use Rattle.lookups.proofs.refusals.sample4_refusal.Tie as tie
 
-chain-refusal-requires : tie.Need-chain-refusal-requires
-chain-refusal-requires c κs = search needs
+started-refusal-requires : tie.Need-started-refusal-requires
+started-refusal-requires c κs = search needs
 
 no-cubemap-refusal-requires : tie.Need-no-cubemap-refusal-requires
 no-cubemap-refusal-requires c κs = search needs
@@ -31,15 +33,24 @@ or-else-requires-3 c κs = search needs
 or-else-requires-4 : tie.Need-or-else-requires-4
 or-else-requires-4 c κs = search needs
 
+same-length : tie.Need-same-length
+same-length c = search needs
+
 returns : tie.Need-returns
 unfolding sample4Refusal
-returns c = cc
+returns c = let r = c .before .before .before in
+    let f = r .before in
+    let q = f .before .before .before in
+    let s = q .before .before .before in (
+      rw (c .or-else4 .ensures, c .before .or-else3 .ensures, c .before .before .or-else2 .ensures, r .or-else .ensures, s .started-refusal .ensures .0, q .no-cubemap-refusal .ensures, f .before .before .sampler-refusal .ensures, f .before .coordinates-refusal .ensures, f .finite-refusal .ensures),
+      λ z. s .started-refusal .ensures .1 (orElse-none _ _ (sym (c .or-else4 .ensures) ∙ z) .0),
+    )
 
 pub sample4-refusal-spec : {M : Type 1} → statement M
 sample4-refusal-spec =
     tie.close
     (tie.spec
-    chain-refusal-requires
+    started-refusal-requires
     no-cubemap-refusal-requires
     sampler-refusal-requires
     coordinates-refusal-requires
@@ -48,4 +59,5 @@ sample4-refusal-spec =
     or-else-requires-2
     or-else-requires-3
     or-else-requires-4
+    same-length
     returns)

@@ -1,176 +1,169 @@
--- `lookups::trilinear::sample_cubemap_trilinear_rgb` meets its contract: past the refusals the answer is four trilinear lookups, and the
--- first lane that refuses is passed on. Assumes nothing.
-use mathlib.Core.Path.{_≡_, sym, ap, _∙_}
-use borrow.Author.Needs.{needs}
+-- `lookups::trilinear::sample_cubemap_trilinear_rgb` meets its contract: past the refusals the answer comes from the places that it reads. Assumes nothing.
+use mathlib.Core.Path.{_≡_, refl, sym, ap, _∙_}
+use native.Mathlib.Omega.{arith}
 use lib.ListN.{length}
-use lib.Ieee.{Float}
 use lib.Ieee.Scale.{finite}
-use Rattle.rules.specs.declared.Pixel.{Pixel}
-use Rattle.rules.specs.declared.Pixel.the-variants.{Of}
 use Rattle.rules.specs.declared.Colour.the-variants.{Rgb}
-use Rattle.rules.specs.Lanes.{fourPixels}
-use Rattle.rules.specs.Cubemap.{trilinearRgb}
+use Rattle.rules.specs.Sizes.{top}
+use Rattle.rules.specs.Refusals.{directionsRefusal, finiteRefusal, trilinearRefusal}
 use Rattle.rules.specs.Answers.{trilinearAnswer}
-use Rattle.rules.proofs.RefusingLookups.{EachLane, Cubed, trilinear-facts}
+use Rattle.rules.proofs.Bounds.{taken-top}
+use Rattle.rules.proofs.RefusingLookups.{Cubed, EachLane, trilinear-facts}
+use Rattle.lane.specs.Cubes.{AllOnCube, Below, spotA, spotB, spotC, spotD, partsOf, twoLanes, betweenOf, lerpedRgb, betweenColour}
+use Rattle.lane.proofs.Passing.{between-passed}
+use Rattle.lane.proofs.Together.{between-given}
 use Rattle.lookups.proofs.Holding.{cube-chained}
-use Rattle.lane.proofs.Passing.{pixel-passed}
 use Rattle.lookups.proofs.Passing.{refuses, gives}
+use Rattle.lookups.proofs.Answering.{early, tri-early, tri-late, tri-last, facing-on, facing-off, facing-passed, spotsAt, trilinear-read, two-inside}
+use borrow.Author.Needs.{needs}
 use Rattle.lookups.proofs.trilinear.sample_cubemap_trilinear_rgb.Statement.{statement}
 use Rattle.lookups.proofs.trilinear.sample_cubemap_trilinear_rgb.Tie as tie
 
--- past the refusals
-facts : (c : tie.Else1) → let a = c .before .before .before .args in Cubed (a .kind) (a .width) (a .height) (length (a .texels .now)) (a .directions) × EachLane finite (a .levels)
-facts c = trilinear-facts _ _ _ _ _ _ (sym (c .before .trilinear-refusal .ensures) ∙ c .if1 .left)
+-- nothing is refused before the directions
+none-early : (c : tie.Else1) → let a = c .before .before .before .before .before .args in early (a .kind) (a .width) (a .height) (length (a .texels .now)) ≡ 0
+none-early c = sym (c .before .before .cube-refusal .ensures .0) ∙ c .if1 .left
 
--- where the lanes start: the arguments, and one lane
-abbrev before : (c : tie.After-z) → tie.Else1
-before c = c .before .before .before
+-- past the directions
+module _ (c : tie.After-known-told) where
+  abbrev past : tie.Else1
+  past = c .before .before .before .before
 
-abbrev lane : tie.After-z → Float → Float → Float → Float → Pixel
-lane c x y z m = let a = c .before .before .before .before .before .before .args in trilinearRgb (a .texels .now) (a .width) (a .height) x y z m
+  on : let a = past .before .before .before .before .before .args in (directionsRefusal (a .directions) ≡ 0) × (c .before .facing .given .0 .0 ≡ spotsAt (a .directions))
+  on = facing-on _ (sym (c .before .before .before .faced .ensures .0) ∙ c .before .facing .given .1)
 
-answered : (c : tie.After-z) → let a = c .before .before .before .before .before .before .args in let n = a .directions in trilinearAnswer (a .kind) (a .width) (a .height) (a .texels .now) n (a .levels) ≡ fourPixels (lane c (n .x .a) (n .y .a) (n .z .a) (a .levels .a)) (lane c (n .x .b) (n .y .b) (n .z .b) (a .levels .b)) (lane c (n .x .c) (n .y .c) (n .z .c) (a .levels .c)) (lane c (n .x .d) (n .y .d) (n .z .d) (a .levels .d))
-unfolding trilinearAnswer
-answered c = gives _ _ (c .before .before .before .before .trilinear-refusal .ensures) (c .before .before .before .if1 .left)
+  lies : AllOnCube (c .before .facing .given .0 .0)
+  lies = c .before .before .before .faced .ensures .1 _ (c .before .facing .given .1)
 
--- the colours, as the lookups found them
-abbrev lanes-a : tie.After-known-told → tie.After-z
-lanes-a c = c .before .before .before .before
+  last : let a = past .before .before .before .before .before .args in trilinearRefusal (a .kind) (a .width) (a .height) (length (a .texels .now)) (a .directions) (a .levels) ≡ finiteRefusal (a .levels)
+  last = tri-last _ _ _ _ _ _ (none-early past) (on .0)
 
-found-a : (c : tie.After-known-told) → let a = before (lanes-a c) .before .before .before .args in lane (lanes-a c) (a .directions .x .a) (a .directions .y .a) (a .directions .z .a) (a .levels .a) ≡ Of (c .before .lane-a .given .0 .0)
-found-a c = sym (c .before .before .before .trilinear-rgb .ensures) ∙ c .before .lane-a .given .1
+-- past the levels
+module _ (c : tie.Else2) where
+  abbrev told : tie.After-known-told
+  told = c .before .before
 
-abbrev lanes-b : tie.After-known-told2 → tie.After-z
-lanes-b c = lanes-a (c .before .before .before .before)
+  none : let a = past told .before .before .before .before .before .args in trilinearRefusal (a .kind) (a .width) (a .height) (length (a .texels .now)) (a .directions) (a .levels) ≡ 0
+  none = last told ∙ sym (c .before .finite-refusal .ensures) ∙ c .if2 .left
 
-found-b : (c : tie.After-known-told2) → let a = before (lanes-b c) .before .before .before .args in lane (lanes-b c) (a .directions .x .b) (a .directions .y .b) (a .directions .z .b) (a .levels .b) ≡ Of (c .before .lane-b .given .0 .0)
-found-b c = sym (c .before .before .before .trilinear-rgb2 .ensures) ∙ c .before .lane-b .given .1
+  facts : let a = past told .before .before .before .before .before .args in Cubed (a .kind) (a .width) (a .height) (length (a .texels .now)) (a .directions) × EachLane finite (a .levels)
+  facts = trilinear-facts _ _ _ _ _ _ none
 
-abbrev lanes-c : tie.After-known-told3 → tie.After-z
-lanes-c c = lanes-b (c .before .before .before .before)
+-- the two levels of each lane
+module _ (c : tie.After-two-levels) where
+  abbrev after : tie.After-known-told
+  after = told (c .before .before)
 
-found-c : (c : tie.After-known-told3) → let a = before (lanes-c c) .before .before .before .args in lane (lanes-c c) (a .directions .x .c) (a .directions .y .c) (a .directions .z .c) (a .levels .c) ≡ Of (c .before .lane-c .given .0 .0)
-found-c c = sym (c .before .before .before .trilinear-rgb3 .ensures) ∙ c .before .lane-c .given .1
+  below : let a = past after .before .before .before .before .before .args in Below (top (a .width) (a .height)) (c .two-levels .result)
+  below = rw (← c .before .top-level .ensures) (c .two-levels .ensures .1)
 
-trilinear-refusal-requires : tie.Need-trilinear-refusal-requires
-trilinear-refusal-requires c κs = search needs
+  answered : let a = past after .before .before .before .before .before .args in let s = after .before .facing .given .0 .0 in let m = c .two-levels .result in let w = a .width in let h = a .height in trilinearAnswer (a .kind) w h (a .texels .now) (a .directions) (a .levels) ≡ betweenColour (betweenOf (twoLanes w h (spotA s) (m .a) (spotB s) (m .b)) (twoLanes w h (spotC s) (m .c) (spotD s) (m .d))) (λ x. lerpedRgb (a .texels .now) x (partsOf m))
+  unfolding trilinearAnswer
+  answered =
+      let t = c .two-levels .ensures in
+      gives _ _ refl (none (c .before .before)) ∙ trilinear-read _ _ _ _ (on after .1) _ _ (c .before .top-level .ensures) (t .0) (t .1)
+
+slice-aggregate-cube-refusal : tie.Need-slice-aggregate-cube-refusal
+slice-aggregate-cube-refusal c = search needs
+
+cube-refusal-requires : tie.Need-cube-refusal-requires
+cube-refusal-requires c κs = search needs
 
 returns : tie.Need-returns
 unfolding trilinearAnswer
-returns c = refuses _ _ (c .before .trilinear-refusal .ensures) (c .if1 .taken)
+returns c = let e = c .before .before .cube-refusal .ensures .0 in
+    refuses _ _ (e ∙ sym (tri-early _ _ _ _ _ _ (λ z. c .if1 .taken (e ∙ z)))) (c .if1 .taken)
 
-trilinear-rgb-requires : tie.Need-trilinear-rgb-requires
-trilinear-rgb-requires c κs = let f = facts (before c) in (cube-chained (f .0), f .0 .directions .a, f .1 .a)
+faced-requires : tie.Need-faced-requires
+faced-requires c κs = search needs
 
-enum-known-lane-a : tie.Need-enum-known-lane-a
-enum-known-lane-a c = search needs
+enum-known-facing : tie.Need-enum-known-facing
+enum-known-facing c = search needs
 
 enum-told : tie.Need-enum-told
 enum-told c = search needs
 
-pixel-number-requires : tie.Need-pixel-number-requires
-pixel-number-requires c κs = search needs
+facing-number-requires : tie.Need-facing-number-requires
+facing-number-requires c κs = search needs
 
 returns-2 : tie.Need-returns-2
-unfolding fourPixels
-returns-2 c =
-    let k = c .before .before .before in
-    rw (answered (k .before), pixel-passed (k .trilinear-rgb .ensures) (c .before .enum-told .given .1) (c .pixel-number .ensures))
+unfolding trilinearAnswer
+returns-2 c = let k = c .before .before .before in
+    let f = facing-off _ (facing-passed (k .faced .ensures .0) (c .before .enum-told .given .1) (c .facing-number .ensures)) in
+    refuses _ _ (sym (tri-late _ _ _ _ _ _ (none-early (k .before)) (λ z. f .1 (sym (f .0) ∙ z)) ∙ f .0)) (f .1)
 
-trilinear-rgb-requires-2 : tie.Need-trilinear-rgb-requires-2
-trilinear-rgb-requires-2 c κs = let f = facts (before (lanes-a c)) in (cube-chained (f .0), f .0 .directions .b, f .1 .b)
+finite-refusal-requires : tie.Need-finite-refusal-requires
+finite-refusal-requires c κs = search needs
 
-enum-known-lane-b : tie.Need-enum-known-lane-b
-enum-known-lane-b c = search needs
+returns-3 : tie.Need-returns-3
+unfolding trilinearAnswer
+returns-3 c = refuses _ _ (c .before .finite-refusal .ensures ∙ sym (last (c .before .before))) (c .if2 .taken)
+
+top-level-requires : tie.Need-top-level-requires
+top-level-requires c κs = search needs
+
+cast-two-levels : tie.Need-cast-two-levels
+cast-two-levels c = search needs
+
+two-levels-requires : tie.Need-two-levels-requires
+two-levels-requires c κs = let f = facts (c .before) in (f .1, omega (arith, c .top-level .ensures, taken-top (f .0 .chained .taken)))
+
+slice-aggregate-level-places : tie.Need-slice-aggregate-level-places
+slice-aggregate-level-places c = search needs
+
+level-places-requires : tie.Need-level-places-requires
+level-places-requires c κs = let k = c .before in
+    let o = k .before .before in
+    let p = past (told o) in
+    (cube-chained (facts o .0) .taken, rw (← facts o .0 .cube) (p .before .before .cube-refusal .ensures .1 (p .if1 .left)), lies (told o), below k)
+
+enum-known-found : tie.Need-enum-known-found
+enum-known-found c = search needs
 
 enum-told-2 : tie.Need-enum-told-2
 enum-told-2 c = search needs
 
-pixel-number-requires-2 : tie.Need-pixel-number-requires-2
-pixel-number-requires-2 c κs = search needs
-
-returns-3 : tie.Need-returns-3
-unfolding fourPixels
-returns-3 c =
-    let k = c .before .before .before in
-    let a = k .before in
-    rw (answered (lanes-a a), found-a a, pixel-passed (k .trilinear-rgb2 .ensures) (c .before .enum-told2 .given .1) (c .pixel-number2 .ensures))
-
-trilinear-rgb-requires-3 : tie.Need-trilinear-rgb-requires-3
-trilinear-rgb-requires-3 c κs = let f = facts (before (lanes-b c)) in (cube-chained (f .0), f .0 .directions .c, f .1 .c)
-
-enum-known-lane-c : tie.Need-enum-known-lane-c
-enum-known-lane-c c = search needs
-
-enum-told-3 : tie.Need-enum-told-3
-enum-told-3 c = search needs
-
-pixel-number-requires-3 : tie.Need-pixel-number-requires-3
-pixel-number-requires-3 c κs = search needs
+between-number-requires : tie.Need-between-number-requires
+between-number-requires c κs = search needs
 
 returns-4 : tie.Need-returns-4
-unfolding fourPixels
-returns-4 c =
-    let k = c .before .before .before in
-    let b = k .before in
-    rw (answered (lanes-b b), found-a (b .before .before .before .before), found-b b, pixel-passed (k .trilinear-rgb3 .ensures) (c .before .enum-told3 .given .1) (c .pixel-number3 .ensures))
+returns-4 c = let k = c .before .before .before in
+    rw (answered (k .before .before), between-passed (k .level-places .ensures) (c .before .enum-told2 .given .1) (c .between-number .ensures))
 
-trilinear-rgb-requires-4 : tie.Need-trilinear-rgb-requires-4
-trilinear-rgb-requires-4 c κs = let f = facts (before (lanes-c c)) in (cube-chained (f .0), f .0 .directions .d, f .1 .d)
-
-enum-known-lane-d : tie.Need-enum-known-lane-d
-enum-known-lane-d c = search needs
-
-enum-told-4 : tie.Need-enum-told-4
-enum-told-4 c = search needs
-
-pixel-number-requires-4 : tie.Need-pixel-number-requires-4
-pixel-number-requires-4 c κs = search needs
+lerp-four-requires : tie.Need-lerp-four-requires
+lerp-four-requires c κs = let k = c .before .before .before in
+    let m = k .before .before in
+    let chain = cube-chained (facts (m .before .before) .0) in
+    let b = below m in
+    let g = between-given _ _ (sym (k .level-places .ensures) ∙ c .before .found .given .1) in
+    (two-inside _ _ _ _ chain (b .in-a) (b .in-b) (g .0), two-inside _ _ _ _ chain (b .in-c) (b .in-d) (g .1))
 
 returns-5 : tie.Need-returns-5
-unfolding fourPixels
-returns-5 c =
-    let k = c .before .before .before in
-    let d = k .before in
-    let b = d .before .before .before .before in
-    rw (answered (lanes-c d), found-a (b .before .before .before .before), found-b b, found-c d, pixel-passed (k .trilinear-rgb4 .ensures) (c .before .enum-told4 .given .1) (c .pixel-number4 .ensures))
-
-rgb-lanes-requires : tie.Need-rgb-lanes-requires
-rgb-lanes-requires c κs = search needs
-
-returns-6 : tie.Need-returns-6
-unfolding fourPixels
-returns-6 c =
-    let k = c .before in
-    let d = k .before .before .before .before in
-    let b = d .before .before .before .before in
-    rw (answered (lanes-c d), found-a (b .before .before .before .before), found-b b, found-c d, sym (k .before .before .before .trilinear-rgb4 .ensures) ∙ k .before .lane-d .given .1) (ap Rgb (c .rgb-lanes .ensures))
+returns-5 c = let f = c .before .before in
+    let k = f .before .before in
+    rw (answered (k .before .before), sym (k .level-places .ensures) ∙ f .found .given .1) (ap Rgb (c .lerp-four .ensures))
 
 pub sample-cubemap-trilinear-rgb-spec : {M : Type 1} → statement M
 sample-cubemap-trilinear-rgb-spec =
     tie.close
     (tie.spec
-    trilinear-refusal-requires
+    slice-aggregate-cube-refusal
+    cube-refusal-requires
     returns
-    trilinear-rgb-requires
-    enum-known-lane-a
+    faced-requires
+    enum-known-facing
     enum-told
-    pixel-number-requires
+    facing-number-requires
     returns-2
-    trilinear-rgb-requires-2
-    enum-known-lane-b
-    enum-told-2
-    pixel-number-requires-2
+    finite-refusal-requires
     returns-3
-    trilinear-rgb-requires-3
-    enum-known-lane-c
-    enum-told-3
-    pixel-number-requires-3
+    top-level-requires
+    cast-two-levels
+    two-levels-requires
+    slice-aggregate-level-places
+    level-places-requires
+    enum-known-found
+    enum-told-2
+    between-number-requires
     returns-4
-    trilinear-rgb-requires-4
-    enum-known-lane-d
-    enum-told-4
-    pixel-number-requires-4
-    returns-5
-    rgb-lanes-requires
-    returns-6)
+    lerp-four-requires
+    returns-5)
