@@ -34,7 +34,7 @@ pub fn cube_place(p: Plane, s: Spot) -> Place
 }
 
 // The same at a level, which is lowered to the top level.
-fn lowered_place(starts: &[usize], width: u32, height: u32, s: Spot, level: u32) -> Place
+fn lowered_place(starts: &[u32], width: u32, height: u32, s: Spot, level: u32) -> Place
     requires { ⌜ Taken cubemap width height × Started (facesOf cubemap) width height (now starts) × OnCube s ⌝ }
     ensures { λ r. ⌜ r ≡ loweredPlace width height s level ⌝ }
 {
@@ -42,7 +42,7 @@ fn lowered_place(starts: &[usize], width: u32, height: u32, s: Spot, level: u32)
 }
 
 // The places of four lanes, each at its own level.
-pub fn cube_places(starts: &[usize], width: u32, height: u32, s: Spots, levels: Wholes) -> Reading
+pub fn cube_places(starts: &[u32], width: u32, height: u32, s: Spots, levels: Wholes) -> Reading
     requires { ⌜ Taken cubemap width height × Started (facesOf cubemap) width height (now starts) × AllOnCube s ⌝ }
     ensures { λ r. ⌜ r ≡ readingOf (loweredPlace width height (spotA s) (levels .a)) (loweredPlace width height (spotB s) (levels .b)) (loweredPlace width height (spotC s) (levels .c)) (loweredPlace width height (spotD s) (levels .d)) ⌝ }
 {

@@ -65,7 +65,7 @@ pub fn two_levels(levels: Lanes, top: usize) -> Pairings
 }
 
 // Where a lane reads one of its two levels.
-fn level_place(starts: &[usize], width: u32, height: u32, s: Spot, level: usize) -> Place
+fn level_place(starts: &[u32], width: u32, height: u32, s: Spot, level: usize) -> Place
     requires { ⌜ Taken cubemap width height × Started (facesOf cubemap) width height (now starts) × OnCube s × (level ≤ top width height) ⌝ }
     ensures { λ r. ⌜ r ≡ levelPlace width height s level ⌝ }
 {
@@ -74,7 +74,7 @@ fn level_place(starts: &[usize], width: u32, height: u32, s: Spot, level: usize)
 
 // The places of two lanes, each at its lower and its upper level.
 fn two_lanes(
-    starts: &[usize],
+    starts: &[u32],
     width: u32,
     height: u32,
     s: Spot,
@@ -106,7 +106,7 @@ fn lerp_lanes(p: Lanes, q: Lanes, t: Lanes) -> Lanes
 }
 
 // The places of four lanes, each at its two levels.
-pub fn level_places(starts: &[usize], width: u32, height: u32, s: Spots, m: Pairings) -> Between
+pub fn level_places(starts: &[u32], width: u32, height: u32, s: Spots, m: Pairings) -> Between
     requires { ⌜ Taken cubemap width height × Started (facesOf cubemap) width height (now starts) × AllOnCube s × Below (top width height) m ⌝ }
     ensures { λ r. ⌜ r ≡ betweenOf (twoLanes width height (spotA s) (m .a) (spotB s) (m .b)) (twoLanes width height (spotC s) (m .c) (spotD s) (m .d)) ⌝ }
 {

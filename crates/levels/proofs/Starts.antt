@@ -28,10 +28,11 @@ module _ (faces w h : ℕ) (pf : faces ≤ 6) (pw : w ≤ 4096) (ph : h ≤ 4096
   start-most (suc m) = omega (arith, start-most m, size-most m)
 
 -- what a walk over the levels leaves is their starts
-pub started : {faces w h : ℕ} (old : List ℕ) {l : List ℕ} → 13 ≤ length old → top w h ≤ 12 → l ≡ over 0 old (top w h + 1) (start faces w h) → Started faces w h l
-started {faces} {w} {h} old long most e =
+pub started : {faces w h : ℕ} (old : List ℕ) {l : List ℕ} → 13 ≤ length old → faces ≤ 6 → w ≤ 4096 → h ≤ 4096 → top w h ≤ 12 → l ≡ over 0 old (top w h + 1) (start faces w h) → Started faces w h l
+started {faces} {w} {h} old long pf pw ph most e =
     rw e
     (record {
       long = omega (arith, length-over 0 old (top w h + 1) (start faces w h) (omega arith));
       at = λ m le. rw (zero-add m) at (over-within 0 old (top w h + 1) (start faces w h) m (omega arith) (omega arith));
+      small = λ m le. omega (arith, start-most faces w h pf pw ph m);
     })

@@ -105,7 +105,7 @@ pub fn picture_refusal(kind: u32, width: u32, height: u32) -> u32
 }
 
 // 1, 2, 3: the picture, then a buffer of n entries for its whole chain. Where none is given, each level's start is written.
-pub fn started_refusal(kind: u32, width: u32, height: u32, n: usize, starts: &mut [usize]) -> u32
+pub fn started_refusal(kind: u32, width: u32, height: u32, n: usize, starts: &mut [u32]) -> u32
     requires { ⌜ 13 ≤ length (now starts) ⌝ }
     ensures number { λ r. ⌜ r ≡ chainRefusal kind width height n ⌝ }
     ensures starts { λ r. ⌜ ((r ≡ 0) → Started (facesOf kind) width height (now (starts .exit))) ⌝ }
@@ -114,13 +114,14 @@ pub fn started_refusal(kind: u32, width: u32, height: u32, n: usize, starts: &mu
     if of_picture != 0 {
         return of_picture;
     }
-    buffer_refusal(starts_of(faces_of(kind), width, height, starts), n)
+    let total = starts_of(faces_of(kind) as u32, width, height, starts);
+    buffer_refusal(total as usize, n)
 }
 
 // The same where the starts are of no use.
 pub fn chain_refusal(kind: u32, width: u32, height: u32, n: usize) -> u32
     ensures { λ r. ⌜ r ≡ chainRefusal kind width height n ⌝ }
 {
-    let mut starts = [0usize; 13];
+    let mut starts = [0u32; 13];
     started_refusal(kind, width, height, n, &mut starts)
 }

@@ -14,21 +14,19 @@ use Rattle.rules.specs.declared.Sampler.{Sampler}
 use Rattle.rules.specs.declared.Spot.{Spot}
 use Rattle.rules.specs.declared.Spots.{Spots}
 use Rattle.rules.specs.declared.Pairing.{Pairing}
-use Rattle.rules.specs.declared.Facing.{Facing}
-use Rattle.rules.specs.declared.Facing.the-variants.{On, Refused as NoFacing}
 use Rattle.rules.specs.declared.Colour.the-variants.{Refused as NoColour}
 use Rattle.rules.specs.declared.Alpha.the-variants.{Refused as NoAlpha}
 use Rattle.rules.specs.Kinds.{cubemap}
 use Rattle.rules.specs.Sizes.{top}
 use Rattle.rules.specs.Wrapping.{modeOf}
 use Rattle.rules.specs.Footprint.{mipLevelOf}
-use Rattle.rules.specs.Refusals.{_orElse_, chainRefusal, onlyCubemapRefusal, directionsRefusal, finiteRefusal, sample4Refusal, cubemapRefusal, trilinearRefusal}
+use Rattle.rules.specs.Refusals.{sample4Refusal}
 use Rattle.rules.specs.Lanes.{lanesOf, fourPixels}
 use Rattle.rules.specs.Places.{planeOf, nearestPlace, nearestRgb, nearestAlpha}
 use Rattle.rules.specs.Faces.{spotOf}
 use Rattle.rules.specs.Cubemap.{spotRgb, cubemapRgb, trilinearRgb}
-use Rattle.rules.specs.Answers.{answer, sample4RgbAnswer, sample4AlphaAnswer, spotsOf, facingAnswer}
-use Rattle.rules.proofs.Refusing.{orElse-zero, orElse-given, answer-given, answer-refused, Chained}
+use Rattle.rules.specs.Answers.{answer, sample4RgbAnswer, sample4AlphaAnswer, spotsOf}
+use Rattle.rules.proofs.Refusing.{answer-refused, Chained}
 use Rattle.rules.proofs.RefusingLookups.{sample4-facts}
 use Rattle.lane.specs.declared.reading.Four.{Four}
 use Rattle.lane.specs.declared.reading.Reading.{Reading}
@@ -40,7 +38,7 @@ use Rattle.lane.specs.Reading.{readingOf, Inside, readRgb, readAlpha, readingCo
 use Rattle.lane.proofs.Holding.{nearest-below, cube-below, lowered-held, plane-held}
 use Rattle.lane.proofs.Levels.{two-levels}
 use Rattle.lane.proofs.Together.{read-pixels, read-values, lerp-pixels, reading-inside}
-use Rattle.lookups.specs.Reads.{sample4Reading, facingNumber}
+use Rattle.lookups.specs.Reads.{sample4Reading, spotsAt}
 use Rattle.lookups.proofs.Holding.{mip-held}
 
 -- ---- the nearest lookup
@@ -100,73 +98,6 @@ sample4-inside kind w h l sampler u v steps e =
     (g .1)
 
 -- ---- the cubemap lookups
-
--- what is looked at before the directions
-abbrev pub early : ℕ → ℕ → ℕ → ℕ → ℕ
-early kind w h n = chainRefusal kind w h n orElse onlyCubemapRefusal kind
-
-orElse-assoc : (a b c : ℕ) → (a orElse (b orElse c)) ≡ ((a orElse b) orElse c)
-orElse-assoc zero b c = orElse-zero 0 (b orElse c) refl ∙ rw (orElse-zero 0 b refl)
-orElse-assoc (suc a) b c =
-    let e = orElse-given (suc a) b (λ z. omega arith) in
-    orElse-given (suc a) (b orElse c) (λ z. omega arith) ∙ rw e (sym (orElse-given (suc a) c (λ z. omega arith)))
-
-module _ (kind w h n : ℕ) (d : Directions) where
-  then-directions : cubemapRefusal kind w h n d ≡ (early kind w h n orElse directionsRefusal d)
-  unfolding cubemapRefusal
-  then-directions = orElse-assoc (chainRefusal kind w h n) (onlyCubemapRefusal kind) (directionsRefusal d)
-
-  -- 1, 2, 3, 8
-  pub cube-early : (early kind w h n ≡ 0 → ⊥) → cubemapRefusal kind w h n d ≡ early kind w h n
-  cube-early other = then-directions ∙ orElse-given _ _ other
-
-  -- 7
-  pub cube-late : early kind w h n ≡ 0 → cubemapRefusal kind w h n d ≡ directionsRefusal d
-  cube-late e = then-directions ∙ orElse-zero _ _ e
-
-  module _ (levels : Lanes) where
-    pub tri-early : (early kind w h n ≡ 0 → ⊥) → trilinearRefusal kind w h n d levels ≡ early kind w h n
-    unfolding trilinearRefusal
-    tri-early other = let e = cube-early other in rw e (orElse-given _ _ other)
-
-    pub tri-late : early kind w h n ≡ 0 → (directionsRefusal d ≡ 0 → ⊥) → trilinearRefusal kind w h n d levels ≡ directionsRefusal d
-    unfolding trilinearRefusal
-    tri-late e other = rw (cube-late e) (orElse-given _ _ other)
-
-    -- 5
-    pub tri-last : early kind w h n ≡ 0 → directionsRefusal d ≡ 0 → trilinearRefusal kind w h n d levels ≡ finiteRefusal levels
-    unfolding trilinearRefusal
-    tri-last e z = orElse-zero _ _ (cube-late e ∙ z)
-
--- four places on the cube that are given, and a refusal
-abbrev pub spotsAt : Directions → Spots
-spotsAt n = spotsOf (spotOf (n .x .a) (n .y .a) (n .z .a)) (spotOf (n .x .b) (n .y .b) (n .z .b)) (spotOf (n .x .c) (n .y .c) (n .z .c)) (spotOf (n .x .d) (n .y .d) (n .z .d))
-
-pub no-facing : (s : Spots) (n : ℕ) → On s ≡ NoFacing n → ⊥
-no-facing s n e = let z : _≡_ {A = ℕ} 0 1 = cc in omega arith
-
--- the number that is passed on is the refusal's own
-pub facing-passed : {asked found : Facing} {n k : ℕ} → found ≡ asked → found ≡ NoFacing n → k ≡ facingNumber found → asked ≡ NoFacing k
-facing-passed {n = n} e g h = sym e ∙ g ∙ ap NoFacing (sym (h ∙ ap facingNumber g))
-
-pub facing-on : (d : Directions) {s : Spots} → facingAnswer d ≡ On s → (directionsRefusal d ≡ 0) × (s ≡ spotsAt d)
-unfolding facingAnswer answer
-facing-on d {s} = by (directionsRefusal d)
-  where
-    by : (n : ℕ) → answer n NoFacing (On (spotsAt d)) ≡ On s → (n ≡ 0) × (s ≡ spotsAt d)
-    by zero e = (refl, let z : spotsAt d ≡ s = cc in sym z)
-    by (suc n) e = absurd (no-facing s (suc n) (sym e ∙ answer-refused (suc n) NoFacing (On (spotsAt d)) (λ z. omega arith)))
-
-pub facing-off : (d : Directions) {k : ℕ} → facingAnswer d ≡ NoFacing k → (directionsRefusal d ≡ k) × (k ≡ 0 → ⊥)
-unfolding facingAnswer answer
-facing-off d {k} = by (directionsRefusal d)
-  where
-    by : (n : ℕ) → answer n NoFacing (On (spotsAt d)) ≡ NoFacing k → (n ≡ k) × (k ≡ 0 → ⊥)
-    by zero e = absurd (no-facing (spotsAt d) k e)
-    by (suc n) e =
-        let g : NoFacing (suc n) ≡ NoFacing k = sym (answer-refused (suc n) NoFacing (On (spotsAt d)) (λ z. omega arith)) ∙ e in
-        let z : suc n ≡ k = cc in
-        (z, λ o. omega arith)
 
 module _ (l : List ℕ) (w h : ℕ) (d : Directions) {s : Spots} (e : s ≡ spotsAt d) where
   pub cubemap-read : (m : Wholes) → fourPixels (cubemapRgb l w h (d .x .a) (d .y .a) (d .z .a) (m .a)) (cubemapRgb l w h (d .x .b) (d .y .b) (d .z .b) (m .b)) (cubemapRgb l w h (d .x .c) (d .y .c) (d .z .c) (m .c)) (cubemapRgb l w h (d .x .d) (d .y .d) (d .z .d) (m .d)) ≡ readingColour (readingOf (loweredPlace w h (spotA s) (m .a)) (loweredPlace w h (spotB s) (m .b)) (loweredPlace w h (spotC s) (m .c)) (loweredPlace w h (spotD s) (m .d))) (readRgb l)

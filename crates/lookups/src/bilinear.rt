@@ -30,7 +30,7 @@ pub fn sample_bilinear_rgb(
 ) -> Colour
     ensures answer { λ r. ⌜ r ≡ bilinearRgbAnswer kind width height (now (texels .entry)) sampler u v level faces ⌝ }
 {
-    let mut starts = [0usize; 13];
+    let mut starts = [0u32; 13];
     let refusal = bilinear_rgb_refusal(
         kind,
         width,
@@ -69,7 +69,7 @@ pub fn sample_bilinear_alpha(
 ) -> Alpha
     ensures answer { λ r. ⌜ r ≡ bilinearAlphaAnswer kind width height (now (texels .entry)) sampler u v level ⌝ }
 {
-    let mut starts = [0usize; 13];
+    let mut starts = [0u32; 13];
     let refusal = bilinear_alpha_refusal(
         kind,
         width,

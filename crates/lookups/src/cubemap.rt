@@ -1,14 +1,12 @@
 // The cubemap lookup of four lanes, each at a level of its own.
-use crate::facing::faced;
-use crate::facing::facing_number;
-use crate::refusals::cube_refusal;
+use crate::facing::four_spots;
+use crate::refusals::cubemap_refusal;
 use lane::cubemap::cube_places;
 use lane::number::reading_number;
 use lane::pixel::rgb_four;
 use lane::reading::Reading;
 use rules::Colour;
 use rules::Directions;
-use rules::Facing;
 use rules::Wholes;
 ghost use mathlib.Core.Path.{_≡_};
 ghost use Rattle.rules.specs.Answers.{cubemapAnswer};
@@ -24,15 +22,12 @@ pub fn sample_cubemap_rgb(
 ) -> Colour
     ensures answer { λ r. ⌜ r ≡ cubemapAnswer kind width height (now (texels .entry)) directions levels ⌝ }
 {
-    let mut starts = [0usize; 13];
-    let refusal = cube_refusal(kind, width, height, texels.len(), &mut starts);
+    let mut starts = [0u32; 13];
+    let refusal = cubemap_refusal(kind, width, height, texels.len(), directions, &mut starts);
     if refusal != 0 {
         return Colour::Refused(refusal);
     }
-    let facing = faced(directions);
-    let Facing::On(spots) = facing else {
-        return Colour::Refused(facing_number(facing));
-    };
+    let spots = four_spots(directions);
     let found = cube_places(&starts, width, height, spots, levels);
     let Reading::At(at) = found else {
         return Colour::Refused(reading_number(found));

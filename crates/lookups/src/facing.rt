@@ -8,11 +8,11 @@ use rules::Spot;
 use rules::Spots;
 use rules::Wholes;
 ghost use mathlib.Core.Path.{_≡_};
-ghost use Rattle.rules.specs.declared.Spots.{Spots};
-ghost use Rattle.rules.specs.declared.Facing.the-variants.{On};
+ghost use Rattle.rules.specs.Faces.{directionTaken};
 ghost use Rattle.rules.specs.Answers.{spotsOf, facingAnswer};
+ghost use Rattle.rules.proofs.RefusingLookups.{EachDirection};
 ghost use Rattle.lane.specs.Cubes.{AllOnCube};
-ghost use Rattle.lookups.specs.Reads.{facingNumber};
+ghost use Rattle.lookups.specs.Reads.{spotsAt};
 
 // Four places on the cube, lane by lane.
 fn spots(a: Spot, b: Spot, c: Spot, d: Spot) -> Spots
@@ -40,35 +40,24 @@ fn spots(a: Spot, b: Spot, c: Spot, d: Spot) -> Spots
     }
 }
 
-// The face that each of four directions meets, and the place on it, which lies on the cube.
-pub fn faced(directions: Directions) -> Facing
+// The face that each of four directions meets, and the place on it.
+pub fn four_spots(directions: Directions) -> Spots
+    ensures { λ r. ⌜ (r ≡ spotsAt directions) × (EachDirection directionTaken directions → AllOnCube r) ⌝ }
+{
+    let a = spot(directions.x.a, directions.y.a, directions.z.a);
+    let b = spot(directions.x.b, directions.y.b, directions.z.b);
+    let c = spot(directions.x.c, directions.y.c, directions.z.c);
+    let d = spot(directions.x.d, directions.y.d, directions.z.d);
+    spots(a, b, c, d)
+}
+
+// The same of directions that are taken.
+pub fn cubemap_uv_from_normal(directions: Directions) -> Facing
     ensures answer { λ r. ⌜ r ≡ facingAnswer directions ⌝ }
-    ensures lies { λ r. ⌜ ((s : Spots) → r ≡ On s → AllOnCube s) ⌝ }
 {
     let refusal = directions_refusal(directions);
     if refusal != 0 {
         return Facing::Refused(refusal);
     }
-    let a = spot(directions.x.a, directions.y.a, directions.z.a);
-    let b = spot(directions.x.b, directions.y.b, directions.z.b);
-    let c = spot(directions.x.c, directions.y.c, directions.z.c);
-    let d = spot(directions.x.d, directions.y.d, directions.z.d);
-    Facing::On(spots(a, b, c, d))
-}
-
-// The same, as a call.
-pub fn cubemap_uv_from_normal(directions: Directions) -> Facing
-    ensures answer { λ r. ⌜ r ≡ facingAnswer directions ⌝ }
-{
-    faced(directions)
-}
-
-// The refusal number that four places on the cube pass on, 0 where they are given.
-pub fn facing_number(facing: Facing) -> u32
-    ensures { λ r. ⌜ r ≡ facingNumber facing ⌝ }
-{
-    match facing {
-        Facing::On(_) => 0,
-        Facing::Refused(n) => n,
-    }
+    Facing::On(four_spots(directions))
 }

@@ -29,7 +29,7 @@ fn sample4_places(
 ) -> Reading
     ensures { λ r. ⌜ r ≡ sample4Reading kind width height n sampler u v steps ⌝ }
 {
-    let mut starts = [0usize; 13];
+    let mut starts = [0u32; 13];
     let refusal = sample4_refusal(kind, width, height, n, sampler, u, v, steps, &mut starts);
     if refusal != 0 {
         return Reading::Refused(refusal);

@@ -8,8 +8,10 @@ use levels::refusals::or_else;
 use levels::refusals::sides_refusal;
 use levels::refusals::started_refusal;
 use places::refusals::coordinates_refusal;
+use places::refusals::directions_refusal;
 use places::refusals::finite_refusal;
 use places::refusals::sampler_refusal;
+use rules::Directions;
 use rules::Lanes;
 use rules::Sampler;
 use rules::Wholes;
@@ -17,7 +19,7 @@ ghost use mathlib.Core.Path.{_≡_};
 ghost use Prim.Native.Nat.{_≤_};
 ghost use lib.ListN.{length};
 ghost use Rattle.rules.specs.Kinds.{facesOf};
-ghost use Rattle.rules.specs.Refusals.{_orElse_, samplerRefusal, levelRefusal, coordinatesRefusal, facesRefusal, onlyCubemapRefusal, chainRefusal, mipLevelRefusal, sample4Refusal, bilinearRgbRefusal, bilinearAlphaRefusal};
+ghost use Rattle.rules.specs.Refusals.{_orElse_, samplerRefusal, levelRefusal, coordinatesRefusal, facesRefusal, mipLevelRefusal, sample4Refusal, bilinearRgbRefusal, bilinearAlphaRefusal, cubemapRefusal, trilinearRefusal};
 ghost use Rattle.levels.specs.Starts.{Started};
 
 // compute_mip_level: 2, 5.
@@ -39,7 +41,7 @@ pub fn sample4_refusal(
     u: Lanes,
     v: Lanes,
     steps: Lanes,
-    starts: &mut [usize],
+    starts: &mut [u32],
 ) -> u32
     requires { ⌜ 13 ≤ length (now starts) ⌝ }
     ensures number { λ r. ⌜ r ≡ sample4Refusal kind width height n sampler u v steps ⌝ }
@@ -88,7 +90,7 @@ pub fn bilinear_rgb_refusal(
     v: Lanes,
     level: u32,
     faces: Wholes,
-    starts: &mut [usize],
+    starts: &mut [u32],
 ) -> u32
     requires { ⌜ 13 ≤ length (now starts) ⌝ }
     ensures number { λ r. ⌜ r ≡ bilinearRgbRefusal kind width height n sampler u v level faces ⌝ }
@@ -110,7 +112,7 @@ pub fn bilinear_alpha_refusal(
     u: Lanes,
     v: Lanes,
     level: u32,
-    starts: &mut [usize],
+    starts: &mut [u32],
 ) -> u32
     requires { ⌜ 13 ≤ length (now starts) ⌝ }
     ensures number { λ r. ⌜ r ≡ bilinearAlphaRefusal kind width height n sampler u v level ⌝ }
@@ -122,13 +124,40 @@ pub fn bilinear_alpha_refusal(
     or_else(chain, or_else(cube, rest))
 }
 
-// What sample_cubemap_rgb and sample_cubemap_trilinear_rgb look at before their directions: 1, 2, 3, 8.
-pub fn cube_refusal(kind: u32, width: u32, height: u32, n: usize, starts: &mut [usize]) -> u32
+// sample_cubemap_rgb: 1, 2, 3, 8, 7.
+pub fn cubemap_refusal(
+    kind: u32,
+    width: u32,
+    height: u32,
+    n: usize,
+    directions: Directions,
+    starts: &mut [u32],
+) -> u32
     requires { ⌜ 13 ≤ length (now starts) ⌝ }
-    ensures number { λ r. ⌜ r ≡ (chainRefusal kind width height n orElse onlyCubemapRefusal kind) ⌝ }
+    ensures number { λ r. ⌜ r ≡ cubemapRefusal kind width height n directions ⌝ }
     ensures starts { λ r. ⌜ ((r ≡ 0) → Started (facesOf kind) width height (now (starts .exit))) ⌝ }
 {
     let chain = started_refusal(kind, width, height, n, starts);
     let flat = only_cubemap_refusal(kind);
-    or_else(chain, flat)
+    let direction = directions_refusal(directions);
+    or_else(chain, or_else(flat, direction))
+}
+
+// sample_cubemap_trilinear_rgb: 1, 2, 3, 8, 7, 5.
+pub fn trilinear_refusal(
+    kind: u32,
+    width: u32,
+    height: u32,
+    n: usize,
+    directions: Directions,
+    levels: Lanes,
+    starts: &mut [u32],
+) -> u32
+    requires { ⌜ 13 ≤ length (now starts) ⌝ }
+    ensures number { λ r. ⌜ r ≡ trilinearRefusal kind width height n directions levels ⌝ }
+    ensures starts { λ r. ⌜ ((r ≡ 0) → Started (facesOf kind) width height (now (starts .exit))) ⌝ }
+{
+    let cube = cubemap_refusal(kind, width, height, n, directions, starts);
+    let numbers = finite_refusal(levels);
+    or_else(cube, numbers)
 }

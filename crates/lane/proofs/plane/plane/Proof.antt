@@ -11,20 +11,23 @@ mul-t7 c = search needs
 shared-slice-read-t9 : tie.Need-shared-slice-read-t9
 shared-slice-read-t9 c = let s = c .before .before in omega (arith, s .pre .0 .long)
 
+cast-t10 : tie.Need-cast-t10
+cast-t10 c = let s = c .before .before in rw (s .pre .0 .at (s .args .level) (s .pre .1)) (omega (arith, s .pre .0 .small (s .args .level) (s .pre .1)))
+
 faces-of-requires : tie.Need-faces-of-requires
 faces-of-requires c κs = search needs
 
 side-at-requires : tie.Need-side-at-requires
 side-at-requires c κs = search needs
 
-cast-t12 : tie.Need-cast-t12
-cast-t12 c = search needs
+cast-t13 : tie.Need-cast-t13
+cast-t13 c = search needs
 
 side-at-requires-2 : tie.Need-side-at-requires-2
 side-at-requires-2 c κs = search needs
 
-cast-t14 : tie.Need-cast-t14
-cast-t14 c = search needs
+cast-t15 : tie.Need-cast-t15
+cast-t15 c = search needs
 
 returns : tie.Need-returns
 unfolding planeOf
@@ -39,9 +42,10 @@ plane-spec =
     (tie.spec
     mul-t7
     shared-slice-read-t9
+    cast-t10
     faces-of-requires
     side-at-requires
-    cast-t12
+    cast-t13
     side-at-requires-2
-    cast-t14
+    cast-t15
     returns)

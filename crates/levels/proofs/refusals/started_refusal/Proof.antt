@@ -1,9 +1,7 @@
 -- `levels::refusals::started_refusal` meets its contract: the picture is looked at before its levels are walked. Assumes nothing.
 use mathlib.Core.Path.{_≡_, sym, _∙_}
-use Prim.Native.Nat.{_≤_}
 use native.Mathlib.Omega.{arith}
 use borrow.Author.Needs.{needs}
-use Rattle.rules.specs.Sizes.{top}
 use Rattle.rules.specs.Refusals.{pictureRefusal, chainRefusal}
 use Rattle.rules.proofs.Bounds.{faces-some, faces-most, taken-top}
 use Rattle.rules.proofs.Refusing.{orElse-zero, picture-facts, chain-picture}
@@ -27,13 +25,16 @@ faces-of-requires c κs = search needs
 fine : (c : tie.Else1) → let a = c .before .before .before .args in pictureRefusal (a .kind) (a .width) (a .height) ≡ 0
 fine c = passed (c .before .picture-refusal .ensures) (c .if1 .left)
 
-top-of : (c : tie.Else1) → let a = c .before .before .before .args in top (a .width) (a .height) ≤ 12
-top-of c = taken-top (picture-facts _ _ _ (fine c))
+cast-starts-of : tie.Need-cast-starts-of
+cast-starts-of c = omega (arith, c .faces-of .ensures, faces-most (c .before .before .before .before .args .kind))
 
 starts-of-requires : tie.Need-starts-of-requires
 starts-of-requires c κs =
     let a = c .before .before .before .before .before .args in
     omega (arith, c .before .faces-of .ensures, picture-facts (a .kind) (a .width) (a .height) (fine (c .before .before)), faces-some (a .kind), faces-most (a .kind))
+
+cast-buffer-refusal : tie.Need-cast-buffer-refusal
+cast-buffer-refusal c = search needs
 
 buffer-refusal-requires : tie.Need-buffer-refusal-requires
 buffer-refusal-requires c κs = search needs
@@ -46,9 +47,10 @@ unfolding chainRefusal
 returns-2 c =
     let w = c .before .before .before in
     let f = w .before .before in
-    let s = f .before .before .before .before in (
+    let s = f .before .before .before .before in
+    let t = picture-facts _ _ _ (fine (f .before)) in (
       rw (c .buffer-refusal .ensures, w .starts-of .ensures .0, f .faces-of .ensures) (sym (orElse-zero _ _ (fine (f .before)))),
-      λ z. rw (← f .faces-of .ensures) (started _ (s .pre) (top-of (f .before)) (w .starts-of .ensures .1)),
+      λ z. rw (← f .faces-of .ensures) (started _ (s .pre) (rw (f .faces-of .ensures) (faces-most (s .args .kind))) (t .most-w) (t .most-h) (taken-top t) (w .starts-of .ensures .1)),
     )
 
 pub started-refusal-spec : {M : Type 1} → statement M
@@ -58,7 +60,9 @@ started-refusal-spec =
     picture-refusal-requires
     returns
     faces-of-requires
+    cast-starts-of
     starts-of-requires
+    cast-buffer-refusal
     buffer-refusal-requires
     same-length
     returns-2)
