@@ -101,8 +101,7 @@ loop-again : tie.Need-loop-again Inv-loop μ-loop
 loop-again c =
     let q = c .before .before in
     let k = q .before .loop in
-    let a = s-of q .args in
-    (
+    let a = s-of q .args in (
       omega arith,
       rw (c .before .half-side .ensures, k .inv .1, half-side (k .m) (a .width), add-one),
       rw (c .half-side2 .ensures, k .inv .2, half-side (k .m) (a .height), add-one),

@@ -31,16 +31,15 @@ spots-requires c κs = search needs
 returns : tie.Need-returns
 unfolding spotsOf
 returns c = let d = c .before in
-    let b = d .before .before in
-    (
+    let b = d .before .before in (
       rw (c .spots .ensures, b .before .spot .ensures .0, b .spot2 .ensures .0, d .before .spot3 .ensures .0, d .spot4 .ensures .0),
       λ f. rw (c .spots .ensures)
-      (record {
-        on-a = lies (f .a) (b .before .spot .ensures .1);
-        on-b = lies (f .b) (b .spot2 .ensures .1);
-        on-c = lies (f .c) (d .before .spot3 .ensures .1);
-        on-d = lies (f .d) (d .spot4 .ensures .1);
-      }),
+          (record {
+            on-a = lies (f .a) (b .before .spot .ensures .1);
+            on-b = lies (f .b) (b .spot2 .ensures .1);
+            on-c = lies (f .c) (d .before .spot3 .ensures .1);
+            on-d = lies (f .d) (d .spot4 .ensures .1);
+          }),
     )
 
 pub four-spots-spec : {M : Type 1} → statement M

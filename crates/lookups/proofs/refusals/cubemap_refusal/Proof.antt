@@ -27,8 +27,7 @@ same-length c = search needs
 returns : tie.Need-returns
 unfolding cubemapRefusal
 returns c = let d = c .before .before in
-    let s = d .before .before .before .before in
-    (
+    let s = d .before .before .before .before in (
       rw (c .or-else2 .ensures, c .before .or-else .ensures, s .started-refusal .ensures .0, d .before .only-cubemap-refusal .ensures, d .directions-refusal .ensures),
       λ z. s .started-refusal .ensures .1 (orElse-none _ _ (sym (c .or-else2 .ensures) ∙ z) .0),
     )

@@ -20,11 +20,10 @@ same-length c = search needs
 
 returns : tie.Need-returns
 unfolding trilinearRefusal
-returns c = let s = c .before .before .before .before in
-    (
-      rw (c .or-else .ensures, s .cubemap-refusal .ensures .0, c .before .finite-refusal .ensures),
-      λ z. s .cubemap-refusal .ensures .1 (orElse-none _ _ (sym (c .or-else .ensures) ∙ z) .0),
-    )
+returns c = let s = c .before .before .before .before in (
+  rw (c .or-else .ensures, s .cubemap-refusal .ensures .0, c .before .finite-refusal .ensures),
+  λ z. s .cubemap-refusal .ensures .1 (orElse-none _ _ (sym (c .or-else .ensures) ∙ z) .0),
+)
 
 pub trilinear-refusal-spec : {M : Type 1} → statement M
 trilinear-refusal-spec =
