@@ -1,11 +1,12 @@
 # make demo, make test: all the set-up that is needed, nothing else. The rest is for whoever works on the unit.
-.PHONY: demo test archive samples sheet sheets differential bench answers proof-times
+.PHONY: demo test archive samples sheet sheets differential real-time bench answers proof-times
 
 CC ?= cc
 CFLAGS = -std=c11 -O2 -Wall -Wextra -Werror -Iinclude
 ARCHIVE = target/staticlib/libstation.a
 PLAIN = cargo run --quiet --release --offline --manifest-path bindings/compare/Cargo.toml
-COMPARE = $(PLAIN) --features unit
+MACHINE = . tools/machine
+SHEET = $(MACHINE) && python3 tools/sheet.py "$$runner target/chain"
 export SWATHECOLD_LIB = $(CURDIR)/target/staticlib
 export CARGO_TARGET_DIR = $(CURDIR)/target/cargo
 
@@ -22,7 +23,7 @@ archive:
 	@rt staticlib station > /dev/null
 
 target/chain: tools/chain.c include/swathecold.h | archive
-	@$(CC) $(CFLAGS) tools/chain.c $(ARCHIVE) -o $@
+	@$(MACHINE) && can $@ "$$no_c" && $${cross_cc:-$(CC)} $(CFLAGS) tools/chain.c $(ARCHIVE) -o $@
 
 samples:
 	python3 tools/pictures.py samples
@@ -30,21 +31,25 @@ samples:
 # make sheet PICTURE=samples/hammered_grey.txr: the picture and all its levels on one sheet, target/sheet.png.
 PICTURE ?= samples/hammered_grey.txr
 sheet: target/chain
-	python3 tools/sheet.py target/chain $(PICTURE) target/sheet.png
+	$(SHEET) $(PICTURE) target/sheet.png
 
 # The two sheets that the README shows.
 sheets: target/chain
-	python3 tools/sheet.py target/chain samples/hammered_grey.txr docs/levels.png
-	python3 tools/sheet.py target/chain samples/hammered_grey.txr docs/accident.png --accident
+	$(SHEET) samples/hammered_grey.txr docs/levels.png
+	$(SHEET) samples/hammered_grey.txr docs/accident.png --accident
 
 # The long comparison with document 01 read plainly and, where they are given (SWRASTER_SRC), the station's own sources.
 differential: archive
-	$(COMPARE) --bin differential -- large
+	@$(MACHINE); unit="$$cross_cargo --features unit"; can "the unit in the comparison" "$$no_rust" || unit=; \
+	  $(PLAIN) $$unit --bin differential -- large
 	tools/memory
 
 # Unit and source side by side, as ratios.
-bench: archive
-	$(COMPARE) --bin bench
+bench: real-time archive
+	$(PLAIN) --features unit --bin bench
+
+real-time:
+	@$(MACHINE) && can bench "$${runner:+a time taken in an emulator says nothing}"
 
 # Makes the stored answers again that crates/replay runs, from document 01 read plainly: no unit is asked.
 answers:

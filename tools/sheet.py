@@ -4,7 +4,8 @@
     sheet.py CHAIN PICTURE.txr OUT.png             each level in its own size, and enlarged to the size of level 0
     sheet.py CHAIN PICTURE.txr OUT.png --accident  what a station showed as the picture after each reopening, beside the picture
 
-CHAIN is the program made of tools/chain.c: the levels are the unit's own, nothing is reduced here. Only Python's library is used.
+CHAIN is the program made of tools/chain.c, behind the words that run it: the levels are the unit's own, nothing is reduced here.
+Only Python's library is used.
 """
 import struct
 import subprocess
@@ -34,7 +35,7 @@ def levels(chain, picture):
     """Each level as (width, height, rows of (r, g, b)); a cubemap's faces stand below each other."""
     data = Path(picture).read_bytes()
     kind, width, height = header(data)
-    run = subprocess.run([chain], input=data, capture_output=True)
+    run = subprocess.run(chain.split(), input=data, capture_output=True)
     if run.returncode:
         sys.exit(f"sheet: {picture}: {run.stderr.decode().strip()}")
     faces, at, found = (6 if kind == 3 else 1), 0, []

@@ -17,6 +17,10 @@ fn main() {
     println!("cargo:rerun-if-changed={}", archive.display());
     println!("cargo:rustc-link-search=native={}", folder.display());
     println!("cargo:rustc-link-lib=static=station");
+    let arch = env::var("CARGO_CFG_TARGET_ARCH").expect("cargo names the processor");
+    if arch != "x86_64" {
+        println!("cargo:warning=libstation.a is for x86-64 Linux: no program for {arch} can link it");
+    }
 }
 
 /// Proves and compiles the unit in the repository that this crate stands in, and answers the archive's folder.
