@@ -1,11 +1,12 @@
 // The bilinear lookup: the four texels around a coordinate, blended by the two weights.
-use crate::corners::square;
+use crate::corners::corners;
 use crate::pixel::opacity_at;
 use crate::pixel::rgb_four;
 use crate::reading::Four;
 use crate::reading::FourCorners;
 use crate::reading::Squares;
 use crate::reading::all_squares;
+use places::axis::four_axes;
 use places::blend::blend;
 use places::blend::blend_alpha;
 use places::blend::weigh;
@@ -36,10 +37,12 @@ pub fn squares(p: Plane, faces: Wholes, s: Mode, t: Mode, u: Lanes, v: Lanes) ->
     requires { ⌜ Sized p × Coordinates u v ⌝ }
     ensures { λ r. ⌜ r ≡ squaresOf (squareAt p (faces .a) s t (u .a) (v .a)) (squareAt p (faces .b) s t (u .b) (v .b)) (squareAt p (faces .c) s t (u .c) (v .c)) (squareAt p (faces .d) s t (u .d) (v .d)) ⌝ }
 {
-    let a = square(p, faces.a as usize, s, t, u.a, v.a);
-    let b = square(p, faces.b as usize, s, t, u.b, v.b);
-    let c = square(p, faces.c as usize, s, t, u.c, v.c);
-    let d = square(p, faces.d as usize, s, t, u.d, v.d);
+    let x = four_axes(s, u, p.width);
+    let y = four_axes(t, v, p.height);
+    let a = corners(p, faces.a as usize, x.a, y.a);
+    let b = corners(p, faces.b as usize, x.b, y.b);
+    let c = corners(p, faces.c as usize, x.c, y.c);
+    let d = corners(p, faces.d as usize, x.d, y.d);
     all_squares(a, b, c, d)
 }
 

@@ -1,6 +1,5 @@
 // The four places of a bilinear lookup.
 use crate::number::place_number;
-use places::axis::axis;
 use places::place::place;
 use rules::Axis;
 use rules::Corners;
@@ -9,13 +8,11 @@ use rules::Place;
 use rules::Plane;
 use rules::Square;
 ghost use mathlib.Core.Path.{_≡_};
-ghost use mathlib.Core.Bool.{true};
-ghost use Rattle.rules.specs.Refusals.{coordinateTaken};
-ghost use Rattle.rules.specs.Bilinear.{cornersOf, squareAt};
+ghost use Rattle.rules.specs.Bilinear.{cornersOf};
 ghost use Rattle.lane.specs.Held.{Sized};
 
 // The places p00, p10, p01, p11 of a face, and the weights.
-fn corners(p: Plane, face: usize, x: Axis, y: Axis) -> Square
+pub fn corners(p: Plane, face: usize, x: Axis, y: Axis) -> Square
     requires { ⌜ Sized p ⌝ }
     ensures { λ r. ⌜ r ≡ cornersOf p face x y ⌝ }
 {
@@ -43,12 +40,4 @@ fn corners(p: Plane, face: usize, x: Axis, y: Axis) -> Square
         fx: x.part,
         fy: y.part,
     })
-}
-
-// The same for a coordinate.
-pub fn square(p: Plane, face: usize, s: Mode, t: Mode, u: f32, v: f32) -> Square
-    requires { ⌜ Sized p × (coordinateTaken u ≡ true) × (coordinateTaken v ≡ true) ⌝ }
-    ensures { λ r. ⌜ r ≡ squareAt p face s t u v ⌝ }
-{
-    corners(p, face, axis(s, u, p.width), axis(t, v, p.height))
 }

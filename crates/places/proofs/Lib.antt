@@ -9,6 +9,7 @@ pub mod Spans
 pub mod Pairs
 pub mod Taken
 pub mod Spots
+pub mod Standing
 pub mod Weighing
 pub mod SourceWraps
 pub mod SourceLevels

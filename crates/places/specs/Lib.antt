@@ -1,2 +1,3 @@
 pub mod Spots
 pub mod Sources
+pub mod Stands
