@@ -2,10 +2,10 @@
 use crate::corners::corners;
 use crate::pixel::opacity_at;
 use crate::pixel::rgb_four;
-use crate::reading::Four;
 use crate::reading::FourCorners;
 use crate::reading::Squares;
 use crate::reading::all_squares;
+use crate::reading::as_four;
 use places::axis::four_axes;
 use places::blend::blend;
 use places::blend::blend_alpha;
@@ -69,42 +69,10 @@ pub fn squares_rgb(texels: &[u32], f: FourCorners) -> Directions
         c: weigh(f.c.fx, f.c.fy),
         d: weigh(f.d.fx, f.d.fy),
     };
-    let p00 = rgb_four(
-        texels,
-        Four {
-            a: f.a.p00,
-            b: f.b.p00,
-            c: f.c.p00,
-            d: f.d.p00,
-        },
-    );
-    let p10 = rgb_four(
-        texels,
-        Four {
-            a: f.a.p10,
-            b: f.b.p10,
-            c: f.c.p10,
-            d: f.d.p10,
-        },
-    );
-    let p01 = rgb_four(
-        texels,
-        Four {
-            a: f.a.p01,
-            b: f.b.p01,
-            c: f.c.p01,
-            d: f.d.p01,
-        },
-    );
-    let p11 = rgb_four(
-        texels,
-        Four {
-            a: f.a.p11,
-            b: f.b.p11,
-            c: f.c.p11,
-            d: f.d.p11,
-        },
-    );
+    let p00 = rgb_four(texels, as_four(f.a.p00, f.b.p00, f.c.p00, f.d.p00));
+    let p10 = rgb_four(texels, as_four(f.a.p10, f.b.p10, f.c.p10, f.d.p10));
+    let p01 = rgb_four(texels, as_four(f.a.p01, f.b.p01, f.c.p01, f.d.p01));
+    let p11 = rgb_four(texels, as_four(f.a.p11, f.b.p11, f.c.p11, f.d.p11));
     Directions {
         x: blend_lanes(w, p00.x, p10.x, p01.x, p11.x),
         y: blend_lanes(w, p00.y, p10.y, p01.y, p11.y),

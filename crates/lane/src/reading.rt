@@ -33,6 +33,13 @@ pub enum Squares {
     Refused(u32),
 }
 
+// Four places in one record.
+pub fn as_four(a: usize, b: usize, c: usize, d: usize) -> Four
+    ensures { λ r. ⌜ r ≡ record { a = a; b = b; c = c; d = d } ⌝ }
+{
+    Four { a, b, c, d }
+}
+
 // Four places, one after the other.
 pub fn all_places(p: Place, q: Place, r: Place, s: Place) -> Reading
     ensures { λ x. ⌜ x ≡ readingOf p q r s ⌝ }

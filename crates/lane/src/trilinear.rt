@@ -6,6 +6,7 @@ use crate::plane::plane;
 use crate::reading::Four;
 use crate::reading::Reading;
 use crate::reading::all_places;
+use crate::reading::as_four;
 use crate::spots::spot_a;
 use crate::spots::spot_b;
 use crate::spots::spot_c;
@@ -126,24 +127,8 @@ pub fn lerp_four(texels: &[u32], at: Eight, m: Pairings) -> Directions
     requires { ⌜ Inside (now texels) (at .ab) × Inside (now texels) (at .cd) ⌝ }
     ensures { λ r. ⌜ r ≡ lerpedRgb (now (texels .entry)) at (partsOf m) ⌝ }
 {
-    let low = rgb_four(
-        texels,
-        Four {
-            a: at.ab.a,
-            b: at.ab.c,
-            c: at.cd.a,
-            d: at.cd.c,
-        },
-    );
-    let high = rgb_four(
-        texels,
-        Four {
-            a: at.ab.b,
-            b: at.ab.d,
-            c: at.cd.b,
-            d: at.cd.d,
-        },
-    );
+    let low = rgb_four(texels, as_four(at.ab.a, at.ab.c, at.cd.a, at.cd.c));
+    let high = rgb_four(texels, as_four(at.ab.b, at.ab.d, at.cd.b, at.cd.d));
     let t = Lanes {
         a: m.a.part,
         b: m.b.part,
