@@ -12,8 +12,7 @@ use Rattle.lane.specs.declared.reading.Squares.{Squares}
 use Rattle.lane.specs.declared.reading.Squares.the-variants.{Refused as NoSquares}
 use Rattle.lane.specs.declared.trilinear.Between.{Between}
 use Rattle.lane.specs.declared.trilinear.Between.the-variants.{Refused as NoEight}
-use Rattle.lane.specs.Cubes.{betweenNumber}
-use Rattle.lane.specs.Numbers.{placeNumber, squareNumber, readingNumber, squaresNumber}
+use Rattle.lane.specs.Numbers.{placeNumber, squareNumber, readingNumber, squaresNumber, betweenNumber}
 
 -- for any kind of answer: `refused n` refuses by n, and `number` is the number in an answer
 passed : {A : Type 0} (refused : ℕ → A) (number : A → ℕ) → ((n : ℕ) → number (refused n) ≡ n) → {asked found : A} {n k : ℕ} → found ≡ asked → found ≡ refused n → k ≡ number found → asked ≡ refused k

@@ -8,7 +8,6 @@ use lib.ListN.{length, getD}
 use lib.Ieee.{Float}
 use Rattle.rules.specs.declared.Lanes.{Lanes}
 use Rattle.rules.specs.declared.Corners.{Corners}
-use Rattle.rules.specs.declared.Rgb.{Rgb}
 use Rattle.rules.specs.declared.Place.{Place}
 use Rattle.rules.specs.declared.Place.the-variants.{At as AtPlace, Refused as NoPlace}
 use Rattle.rules.specs.declared.Square.{Square}
@@ -88,7 +87,7 @@ module _ (l : List ℕ) where
 
 -- ---- the places
 
-no-reading : (n : ℕ) (f : Four) → Refused n ≡ At f → ⊥
+pub no-reading : (n : ℕ) (f : Four) → Refused n ≡ At f → ⊥
 no-reading n f e = let z : _≡_ {A = ℕ} 0 1 = cc in omega arith
 
 no-squares : (n : ℕ) (f : FourCorners) → NoSquares n ≡ AtSquares f → ⊥

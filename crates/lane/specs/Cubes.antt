@@ -18,7 +18,6 @@ use Rattle.rules.specs.Lanes.{lanesOf, rgbLanes}
 use Rattle.rules.specs.Places.{planeOf, rgbOf}
 use Rattle.rules.specs.Cubemap.{cubePlace, pairingOf, lerpRgb}
 use Rattle.places.specs.Spots.{OnCube}
-use Rattle.lane.specs.declared.reading.Four.{Four}
 use Rattle.lane.specs.declared.reading.Reading.{Reading}
 use Rattle.lane.specs.declared.reading.Reading.the-variants.{At, Refused}
 use Rattle.lane.specs.declared.trilinear.Pairings.{Pairings}
@@ -27,6 +26,7 @@ use Rattle.lane.specs.declared.trilinear.Between.{Between}
 use Rattle.lane.specs.declared.trilinear.Between.the-variants.{At as AtEight, Refused as NoEight}
 use Rattle.lane.specs.Reading.{readingOf}
 
+-- lane by lane
 abbrev pub spotA : Spots → Spot
 spotA s = record { face = s .faces .a; u = s .u .a; v = s .v .a }
 
@@ -39,6 +39,7 @@ spotC s = record { face = s .faces .c; u = s .u .c; v = s .v .c }
 abbrev pub spotD : Spots → Spot
 spotD s = record { face = s .faces .d; u = s .u .d; v = s .v .d }
 
+-- each lies on the cube
 pub record AllOnCube (s : Spots) : Type 0 where
   pub on-a : OnCube (spotA s)
   pub on-b : OnCube (spotB s)
@@ -53,15 +54,16 @@ loweredPlace w h s m = cubePlace (planeOf cubemap w h (min m (top w h))) s
 abbrev pub levelPlace : ℕ → ℕ → Spot → ℕ → Place
 levelPlace w h s m = cubePlace (planeOf cubemap w h m) s
 
--- the two levels of four lanes' fractional levels, none above n
+-- the two levels of four lanes' fractional levels
 unfoldable pub pairingsOf : Lanes → ℕ → Pairings
 pairingsOf levels n =
     record { a = pairingOf (levels .a) n; b = pairingOf (levels .b) n; c = pairingOf (levels .c) n; d = pairingOf (levels .d) n }
 
+-- none above n
 abbrev pub PairBelow : ℕ → Pairing → Type 0
 PairBelow n m = (m .low ≤ n) × (m .high ≤ n)
 
-pub record Below (n : ℕ) (m : Pairings) : Type 0 where
+pub record UpTo (n : ℕ) (m : Pairings) : Type 0 where
   pub in-a : PairBelow n (m .a)
   pub in-b : PairBelow n (m .b)
   pub in-c : PairBelow n (m .c)
@@ -80,10 +82,6 @@ abbrev pub betweenOf : Reading → Reading → Between
 betweenOf (At p) (At q) = AtEight (record { ab = p; cd = q })
 betweenOf (At p) (Refused n) = NoEight n
 betweenOf (Refused n) q = NoEight n
-
-abbrev pub betweenNumber : Between → ℕ
-betweenNumber (AtEight e) = 0
-betweenNumber (NoEight n) = n
 
 -- the colours at the places i and j, blended
 abbrev pub lerpedAt : List ℕ → ℕ → ℕ → Float → Rgb

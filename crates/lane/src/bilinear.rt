@@ -19,7 +19,7 @@ use rules::Weights;
 use rules::Wholes;
 ghost use mathlib.Core.Path.{_≡_};
 ghost use Rattle.rules.specs.Lanes.{lanesOf};
-ghost use Rattle.rules.specs.Bilinear.{blendOf, weightsOf, squareAt, cornersAlpha};
+ghost use Rattle.rules.specs.Bilinear.{blendOf, squareAt, cornersAlpha};
 ghost use Rattle.rules.proofs.RefusingLookups.{Coordinates};
 ghost use Rattle.lane.specs.Held.{Sized, Within};
 ghost use Rattle.lane.specs.Reading.{squaresOf, AllWithin, blendedRgb, blendedAlpha};

@@ -3,7 +3,6 @@ use crate::number::place_number;
 use places::place::place;
 use rules::Axis;
 use rules::Corners;
-use rules::Mode;
 use rules::Place;
 use rules::Plane;
 use rules::Square;

@@ -5,8 +5,7 @@ use crate::trilinear::Between;
 use rules::Place;
 use rules::Square;
 ghost use mathlib.Core.Path.{_≡_};
-ghost use Rattle.lane.specs.Cubes.{betweenNumber};
-ghost use Rattle.lane.specs.Numbers.{placeNumber, squareNumber, readingNumber, squaresNumber};
+ghost use Rattle.lane.specs.Numbers.{placeNumber, squareNumber, readingNumber, squaresNumber, betweenNumber};
 
 // Of a place.
 pub fn place_number(found: Place) -> u32

@@ -30,7 +30,7 @@ ghost use Rattle.rules.proofs.Refusing.{Taken};
 ghost use Rattle.rules.proofs.RefusingLookups.{EachLane};
 ghost use Rattle.places.specs.Spots.{OnCube};
 ghost use Rattle.levels.specs.Starts.{Started};
-ghost use Rattle.lane.specs.Cubes.{spotA, spotB, spotC, spotD, AllOnCube, levelPlace, pairingsOf, Below, partsOf, twoLanes, betweenOf, lerpedRgb};
+ghost use Rattle.lane.specs.Cubes.{spotA, spotB, spotC, spotD, AllOnCube, levelPlace, pairingsOf, UpTo, partsOf, twoLanes, betweenOf, lerpedRgb};
 ghost use Rattle.lane.specs.Reading.{Inside};
 
 // The two levels of each lane.
@@ -55,7 +55,7 @@ pub enum Between {
 // The two levels of four lanes' fractional levels.
 pub fn two_levels(levels: Lanes, top: usize) -> Pairings
     requires { ⌜ EachLane finite levels × (top ≤ 12) ⌝ }
-    ensures { λ r. ⌜ (r ≡ pairingsOf levels top) × Below top r ⌝ }
+    ensures { λ r. ⌜ (r ≡ pairingsOf levels top) × UpTo top r ⌝ }
 {
     Pairings {
         a: pairing(levels.a, top),
@@ -108,7 +108,7 @@ fn lerp_lanes(p: Lanes, q: Lanes, t: Lanes) -> Lanes
 
 // The places of four lanes, each at its two levels.
 pub fn level_places(starts: &[u32], width: u32, height: u32, s: Spots, m: Pairings) -> Between
-    requires { ⌜ Taken cubemap width height × Started (facesOf cubemap) width height (now starts) × AllOnCube s × Below (top width height) m ⌝ }
+    requires { ⌜ Taken cubemap width height × Started (facesOf cubemap) width height (now starts) × AllOnCube s × UpTo (top width height) m ⌝ }
     ensures { λ r. ⌜ r ≡ betweenOf (twoLanes width height (spotA s) (m .a) (spotB s) (m .b)) (twoLanes width height (spotC s) (m .c) (spotD s) (m .d)) ⌝ }
 {
     let first = two_lanes(starts, width, height, spot_a(s), m.a, spot_b(s), m.b);

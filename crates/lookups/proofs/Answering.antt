@@ -1,9 +1,9 @@
 -- A call's answer from the places that it reads. Past the refusals that it looks at first, the four one-lane answers are one answer from the
 -- places of the four (`Together`), and a refusal goes through unchanged. Assumes nothing.
-use mathlib.Core.Path.{_≡_, refl, sym, ap, subst, _∙_}
+use mathlib.Core.Path.{_≡_, refl, sym, ap, _∙_}
 use mathlib.Core.Bool.{Bool, true, false, cond}
 use mathlib.Core.List.{List}
-use Prim.Native.Nat.{ℕ, zero, suc, _≤_}
+use Prim.Native.Nat.{ℕ, zero, suc}
 use native.Mathlib.Omega.{arith}
 use lib.Dec.{eqb}
 use lib.ListN.{length}
@@ -21,9 +21,8 @@ use Rattle.rules.specs.Sizes.{top}
 use Rattle.rules.specs.Wrapping.{modeOf}
 use Rattle.rules.specs.Footprint.{mipLevelOf}
 use Rattle.rules.specs.Refusals.{sample4Refusal}
-use Rattle.rules.specs.Lanes.{lanesOf, fourPixels}
-use Rattle.rules.specs.Places.{planeOf, nearestPlace, nearestRgb, nearestAlpha}
-use Rattle.rules.specs.Faces.{spotOf}
+use Rattle.rules.specs.Lanes.{fourPixels}
+use Rattle.rules.specs.Places.{planeOf, nearestRgb, nearestAlpha}
 use Rattle.rules.specs.Cubemap.{spotRgb, cubemapRgb, trilinearRgb}
 use Rattle.rules.specs.Answers.{answer, sample4RgbAnswer, sample4AlphaAnswer, spotsOf}
 use Rattle.rules.proofs.Refusing.{answer-refused, Chained}
@@ -32,12 +31,12 @@ use Rattle.lane.specs.declared.reading.Four.{Four}
 use Rattle.lane.specs.declared.reading.Reading.{Reading}
 use Rattle.lane.specs.declared.reading.Reading.the-variants.{At, Refused}
 use Rattle.lane.specs.declared.trilinear.Pairings.{Pairings}
-use Rattle.lane.specs.Cubes.{spotA, spotB, spotC, spotD, loweredPlace, pairingsOf, PairBelow, Below, partsOf, twoLanes, betweenOf, lerpedRgb, betweenColour}
+use Rattle.lane.specs.Cubes.{spotA, spotB, spotC, spotD, loweredPlace, pairingsOf, PairBelow, UpTo, partsOf, twoLanes, betweenOf, lerpedRgb, betweenColour}
 use Rattle.lane.specs.Held.{Held}
 use Rattle.lane.specs.Reading.{readingOf, Inside, readRgb, readAlpha, readingColour, readingAlpha}
-use Rattle.lane.proofs.Holding.{nearest-below, cube-below, lowered-held, plane-held}
+use Rattle.lane.proofs.Holding.{nearest-below, cube-below, plane-held}
 use Rattle.lane.proofs.Levels.{two-levels}
-use Rattle.lane.proofs.Together.{read-pixels, read-values, lerp-pixels, reading-inside}
+use Rattle.lane.proofs.Together.{no-reading, read-pixels, read-values, lerp-pixels, reading-inside}
 use Rattle.lookups.specs.Reads.{sample4Reading, spotsAt}
 use Rattle.lookups.proofs.Holding.{mip-held}
 
@@ -74,9 +73,6 @@ module _ (kind w h : ℕ) (l : List ℕ) (sampler : Sampler) (u v steps : Lanes)
       ∙ ap (answer (sample4Refusal kind w h (length l) sampler u v steps) NoAlpha) (sym (read-values l _ _ _ _)))
 
 -- an answer that is given was not refused
-no-reading : (n : ℕ) (f : Four) → Refused n ≡ At f → ⊥
-no-reading n f e = let z : _≡_ {A = ℕ} 0 1 = cc in omega arith
-
 not-refused : {r : Reading} {f : Four} (n : ℕ) → answer n Refused r ≡ At f → (n ≡ 0) × (r ≡ At f)
 unfolding answer
 not-refused zero e = (refl, e)
@@ -105,7 +101,7 @@ module _ (l : List ℕ) (w h : ℕ) (d : Directions) {s : Spots} (e : s ≡ spot
   cubemap-read m = rw e (read-pixels l _ _ _ _)
 
   -- two levels of each lane, which are levels of the picture
-  pub trilinear-read : (levels : Lanes) (n : ℕ) {m : Pairings} → n ≡ top w h → m ≡ pairingsOf levels n → Below n m → fourPixels (trilinearRgb l w h (d .x .a) (d .y .a) (d .z .a) (levels .a)) (trilinearRgb l w h (d .x .b) (d .y .b) (d .z .b) (levels .b)) (trilinearRgb l w h (d .x .c) (d .y .c) (d .z .c) (levels .c)) (trilinearRgb l w h (d .x .d) (d .y .d) (d .z .d) (levels .d)) ≡ betweenColour (betweenOf (twoLanes w h (spotA s) (m .a) (spotB s) (m .b)) (twoLanes w h (spotC s) (m .c) (spotD s) (m .d))) (λ x. lerpedRgb l x (partsOf m))
+  pub trilinear-read : (levels : Lanes) (n : ℕ) {m : Pairings} → n ≡ top w h → m ≡ pairingsOf levels n → UpTo n m → fourPixels (trilinearRgb l w h (d .x .a) (d .y .a) (d .z .a) (levels .a)) (trilinearRgb l w h (d .x .b) (d .y .b) (d .z .b) (levels .b)) (trilinearRgb l w h (d .x .c) (d .y .c) (d .z .c) (levels .c)) (trilinearRgb l w h (d .x .d) (d .y .d) (d .z .d) (levels .d)) ≡ betweenColour (betweenOf (twoLanes w h (spotA s) (m .a) (spotB s) (m .b)) (twoLanes w h (spotC s) (m .c) (spotD s) (m .d))) (λ x. lerpedRgb l x (partsOf m))
   unfolding spotRgb spotsOf twoLanes pairingsOf
   trilinear-read levels n t g below =
       let a = ap (λ (x : Pairings). x .a) g in

@@ -6,7 +6,6 @@ use lib.Ieee.{Float, binary32, sub, ofInt}
 use Rattle.rules.specs.declared.Lanes.{Lanes}
 use Rattle.rules.specs.declared.Mode.{Mode}
 use Rattle.rules.specs.declared.Mode.the-variants.{Repeat, Clamp, Mirror}
-use Rattle.rules.specs.declared.Axis.{Axis}
 use Rattle.rules.specs.Floats.{Between, zero32, one32}
 use Rattle.rules.specs.Whole.{floorOf}
 use Rattle.rules.specs.Bilinear.{spanOf, axisOf}
@@ -14,10 +13,11 @@ use Rattle.places.specs.declared.axis.Stand.{Stand}
 use Rattle.places.specs.declared.axis.Axes.{Axes}
 use Rattle.places.specs.declared.wrap.Two.{Two}
 
--- n wrapped into the side d, for n lifted by 2050 sides
+-- min(r, 2d - r, d - 1), for r a remainder by 2d
 abbrev pub mirrorAt : ℕ → ℕ → ℕ
 mirrorAt r d = min (min r (2 * d - r)) (d - 1)
 
+-- n wrapped into the side d, for n lifted by 2050 sides
 unfoldable pub wrapAt : Mode → ℕ → ℕ → ℕ
 wrapAt Repeat n d = n % d
 wrapAt Clamp n d = min (max n (2050 * d) - 2050 * d) (d - 1)

@@ -1,7 +1,6 @@
 -- `lane::cubemap::lowered_place` meets its contract. Assumes nothing.
 use native.Mathlib.Nat.{min-le-right}
 use Rattle.lane.proofs.Holding.{plane-sized}
-use borrow.Author.Needs.{needs}
 use Rattle.lane.proofs.cubemap.lowered_place.Statement.{statement}
 use Rattle.lane.proofs.cubemap.lowered_place.Tie as tie
 

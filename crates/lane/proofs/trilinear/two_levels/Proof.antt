@@ -2,7 +2,6 @@
 use mathlib.Core.Path.{sym, subst}
 use lib.Dec.{T}
 use Rattle.lane.specs.Cubes.{pairingsOf}
-use borrow.Author.Needs.{needs}
 use Rattle.lane.proofs.trilinear.two_levels.Statement.{statement}
 use Rattle.lane.proofs.trilinear.two_levels.Tie as tie
 

@@ -1,6 +1,6 @@
 -- `levels::walk::starts_of` meets its contract. The invariant: w and h are the sides of level m, `at` is where it starts, and the starts of
 -- the levels before it are written. The measure is the levels left. Assumes nothing.
-use mathlib.Core.Path.{_≡_, refl, sym, ap, _∙_}
+use mathlib.Core.Path.{_≡_, refl, sym, _∙_}
 use Prim.Native.Nat.{ℕ, _+_, _-_, _*_, _≤_}
 use native.Mathlib.Nat.{mul-le-mul}
 use native.Mathlib.Omega.{arith}

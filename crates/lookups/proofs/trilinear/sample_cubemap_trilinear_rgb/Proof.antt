@@ -8,7 +8,7 @@ use Rattle.rules.specs.Sizes.{top}
 use Rattle.rules.specs.Answers.{trilinearAnswer}
 use Rattle.rules.proofs.Bounds.{taken-top}
 use Rattle.rules.proofs.RefusingLookups.{Cubed, EachLane, trilinear-facts}
-use Rattle.lane.specs.Cubes.{Below, spotA, spotB, spotC, spotD, partsOf, twoLanes, betweenOf, lerpedRgb, betweenColour}
+use Rattle.lane.specs.Cubes.{UpTo, spotA, spotB, spotC, spotD, partsOf, twoLanes, betweenOf, lerpedRgb, betweenColour}
 use Rattle.lane.proofs.Passing.{between-passed}
 use Rattle.lane.proofs.Together.{between-given}
 use Rattle.lookups.proofs.Holding.{cube-chained}
@@ -27,7 +27,7 @@ module _ (c : tie.After-two-levels) where
   abbrev past : tie.Else1
   past = c .before .before .before
 
-  below : let a = past .before .before .before .before .before .args in Below (top (a .width) (a .height)) (c .two-levels .result)
+  below : let a = past .before .before .before .before .before .args in UpTo (top (a .width) (a .height)) (c .two-levels .result)
   below = rw (← c .before .top-level .ensures) (c .two-levels .ensures .1)
 
   answered : let a = past .before .before .before .before .before .args in let s = c .before .before .four-spots .result in let m = c .two-levels .result in let w = a .width in let h = a .height in trilinearAnswer (a .kind) w h (a .texels .now) (a .directions) (a .levels) ≡ betweenColour (betweenOf (twoLanes w h (spotA s) (m .a) (spotB s) (m .b)) (twoLanes w h (spotC s) (m .c) (spotD s) (m .d))) (λ x. lerpedRgb (a .texels .now) x (partsOf m))
