@@ -6,6 +6,7 @@ pub mod FromZero
 pub mod Units
 pub mod Unique
 pub mod Patterns
+pub mod Wholes
 pub mod Sums
 pub mod Packs
 pub mod Evens
