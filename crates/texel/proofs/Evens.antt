@@ -92,8 +92,8 @@ module _ (p : Float) (b : Between zero32 p high12) where
   finite-p = Between-finite zero32 p high12 tt tt b
 
   -- the sum as a fraction, and the whole number nearest to it
-  sum : Moved p (fin false 1 (pos 52)) (2 ^ 52)
-  sum = let k = fraction p finite-p b in let d = den-pos p in moved p 1 52 finite-p (omega arith)
+  sum : Moved binary64 p (fin false 1 (pos 52)) (2 ^ 52)
+  sum = let k = fraction p finite-p b in let d = den-pos p in moved binary64 p 1 52 finite-p (omega arith)
 
   size-is : sum .size * 2 ^ 0 ≡ num p + 2 ^ 52 * den p
   size-is = let k = no-sign p finite-p (b .low) in let x = k .0 in let y = k .1 in let z = sum .val in omega arith
@@ -114,7 +114,7 @@ module _ (p : Float) (b : Between zero32 p high12) where
   even-bits =
       let k = whole in
       let l = small in
-      ap (λ (y : Float). toBits binary64 y % 2 ^ 52) (sum .is) ∙ ap (λ (n : ℕ). n % 2 ^ 52) (rounded-bits (sum .size) (den p) 0 (den-pos p) zero-le least most) ∙ omega arith
+      ap (λ (y : Float). toBits binary64 y % 2 ^ 52) (sum .is) ∙ ap (λ (n : ℕ). n % 2 ^ 52) (rounded-bits binary64 (sum .size) (den p) 0 (den-pos p) zero-le least most) ∙ omega arith
 
   pub even-no-nan : T (not (isNan (add binary64 p (fin false 1 (pos 52)))))
-  even-no-nan = no-nan _ (subst (λ (y : Float). T (finite y)) (sym (sum .is)) (rounded-finite (sum .size) (den p) 0 (den-pos p) zero-le least most))
+  even-no-nan = no-nan _ (subst (λ (y : Float). T (finite y)) (sym (sum .is)) (rounded-finite binary64 (sum .size) (den p) 0 (den-pos p) zero-le least most))

@@ -236,8 +236,8 @@ module _ (x : Float) (b : Between low23 x high23) where
   finite-x : T (finite x)
   finite-x = Between-finite low23 x high23 tt tt b
 
-  sum : Moved x (fin false 536870913 (pos 23)) 4503599635759104
-  sum = let h = size-le (sgn x) (num x) n d (raised x b .val) (raised x b .few) in let l = den-pos x in moved x 536870913 23 finite-x (omega arith)
+  sum : Moved binary64 x (fin false 536870913 (pos 23)) 4503599635759104
+  sum = let h = size-le (sgn x) (num x) n d (raised x b .val) (raised x b .few) in let l = den-pos x in moved binary64 x 536870913 23 finite-x (omega arith)
 
   size-is : sum .size * 2 ^ 0 ≡ n + 2 ^ 52 * d
   size-is = let u = sum .val in let v = raised x b .val in omega arith
@@ -270,13 +270,13 @@ module _ (x : Float) (b : Between low23 x high23) where
       let h = high in
       let l = low in
       let k = small in
-      ap (λ (y : Float). toBits binary64 y % 2 ^ 52) (sum .is) ∙ ap (λ (z : ℕ). z % 2 ^ 52) (rounded-bits (sum .size) d 0 (den-pos x) zero-le least most) ∙ omega arith
+      ap (λ (y : Float). toBits binary64 y % 2 ^ 52) (sum .is) ∙ ap (λ (z : ℕ). z % 2 ^ 52) (rounded-bits binary64 (sum .size) d 0 (den-pos x) zero-le least most) ∙ omega arith
 
   between : (n / d ≤ low-bits) × (low-bits ≤ suc (n / d))
   between = let e = bits-are in let h = high in let l = low in (omega arith, omega arith)
 
   pub sum-no-nan : T (not (isNan (add binary64 x (fin false 536870913 (pos 23)))))
-  sum-no-nan = no-nan _ (subst (λ (y : Float). T (finite y)) (sym (sum .is)) (rounded-finite (sum .size) d 0 (den-pos x) zero-le least most))
+  sum-no-nan = no-nan _ (subst (λ (y : Float). T (finite y)) (sym (sum .is)) (rounded-finite binary64 (sum .size) d 0 (den-pos x) zero-le least most))
 
   pub whole : Lowered low-bits (subℕ low-bits 8388608)
   whole = let h = between .1 in let l = small in lowered low-bits (omega arith)
@@ -284,8 +284,8 @@ module _ (x : Float) (b : Between low23 x high23) where
   -- the sum less what was added is that whole number again
   again : Back (sub binary64 (add binary64 x (fin false 536870913 (pos 23))) (fin false 536870913 (pos 23))) (closest (sum .size * 2 ^ 0) d) 4503599635759104
   again =
-      back (add binary64 x (fin false 536870913 (pos 23))) (closest (sum .size * 2 ^ 0) d) 536870913 23
-      (subst (λ (y : Float). HasValue y false (closest (sum .size * 2 ^ 0) d) 1) (sym (sum .is)) (whole-value (round binary64 false (sum .size) d) (closest (sum .size * 2 ^ 0) d) (value (sum .size) d 0 (den-pos x) zero-le least most)))
+      back binary64 (add binary64 x (fin false 536870913 (pos 23))) (closest (sum .size * 2 ^ 0) d) 536870913 23
+      (subst (λ (y : Float). HasValue y false (closest (sum .size * 2 ^ 0) d) 1) (sym (sum .is)) (whole-value binary64 (round binary64 false (sum .size) d) (closest (sum .size * 2 ^ 0) d) (value binary64 (sum .size) d 0 (den-pos x) zero-le least most)))
       (let m = most in omega arith) (lit≤ tt)
 
   beside : plus (again .sign) (again .size) + 8388608 ≡ low-bits + less (again .sign) (again .size)

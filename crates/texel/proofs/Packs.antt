@@ -53,8 +53,8 @@ module _ (p : Float) (F : T (fits binary32 p)) (b : Between zero32 p top32) wher
   unfolding ofBits
   fraction = le-trans (le-of-eq (sym (mul-one (num p)))) (fraction-le p top32 finite-p tt (b .low) (b .high))
 
-  sum : Moved p (fin false 1 (pos 28)) (2 ^ 28)
-  sum = let k = fraction in let d = den-pos p in moved p 1 28 finite-p (omega arith)
+  sum : Moved binary64 p (fin false 1 (pos 28)) (2 ^ 28)
+  sum = let k = fraction in let d = den-pos p in moved binary64 p 1 28 finite-p (omega arith)
 
   size-is : sum .size ≡ num p + 268435456 * den p
   size-is = let k = no-sign p finite-p (b .low) in let x = k .0 in let y = k .1 in let z = sum .val in omega arith
@@ -106,7 +106,7 @@ module _ (p : Float) (F : T (fits binary32 p)) (b : Between zero32 p top32) wher
   pack-bits =
       let k = cut in
       let l = small in
-      ap (λ (y : Float). toBits binary64 y / 16777216 % 256) (sum .is) ∙ ap (λ (z : ℕ). z / 16777216 % 256) (rounded-bits (sum .size) (den p) 24 (den-pos p) (lit≤ tt) least most) ∙ omega arith ∙ sym whole-is
+      ap (λ (y : Float). toBits binary64 y / 16777216 % 256) (sum .is) ∙ ap (λ (z : ℕ). z / 16777216 % 256) (rounded-bits binary64 (sum .size) (den p) 24 (den-pos p) (lit≤ tt) least most) ∙ omega arith ∙ sym whole-is
 
   pub pack-no-nan : T (not (isNan (add binary64 p (fin false 1 (pos 28)))))
-  pack-no-nan = no-nan _ (subst (λ (y : Float). T (finite y)) (sym (sum .is)) (rounded-finite (sum .size) (den p) 24 (den-pos p) (lit≤ tt) least most))
+  pack-no-nan = no-nan _ (subst (λ (y : Float). T (finite y)) (sym (sum .is)) (rounded-finite binary64 (sum .size) (den p) 24 (den-pos p) (lit≤ tt) least most))

@@ -1,17 +1,17 @@
--- One f64 sum rounds to a whole number. A value from 2^(52 - g) up to 2^(53 - g) has 2^-g as its last place, so the pattern of a rounded
--- fraction there is a constant and the whole number nearest to the fraction times 2^g. With a power of two added, or one and a half of it,
--- every value of an f32 in the range at hand lands there, and the number is read from the pattern. Assumes nothing.
+-- One sum rounds to a whole number. In a format of p digits a value from 2^(p - 1 - g) up to 2^(p - g) has 2^-g as its last place, so the
+-- pattern of a rounded fraction there is a constant and the whole number nearest to the fraction times 2^g. With a power of two added, or one
+-- and a half of it, every value of the range at hand lands there, and the number is read from the pattern. Assumes nothing.
 use mathlib.Core.Path.{_≡_, refl, sym, ap, _∙_, subst}
 use mathlib.Core.Bool.{Bool, true, false}
-use Prim.Native.Nat.{ℕ, _+_, _-_, _*_, _/_, _%_, _^_, _≤_, _<_, compare, zero-le}
+use Prim.Native.Nat.{ℕ, suc, _+_, _-_, _*_, _/_, _%_, _^_, _≤_, _<_, compare, zero-le}
 use native.Mathlib.Nat.{le-trans, le-of-eq, lt-of-lt-of-le, lt-of-le-of-lt, lt-of-not-le, not-le-of-lt, mul-one, mul-comm, mul-assoc, mul-right-comm, mul-le-mul-right, mul-lt-mul-of-pos-right, mul-pos, mul-div-cancel, le-div-iff-mul-le, div-lt-iff-lt-mul, add-mul, le-of-mul-le-mul-right, eq-of-mul-eq-mul-right}
 use native.Mathlib.Omega.{arith}
 use lib.IntN.{pos}
 use lib.Dec.{T, lit<}
 use lib.Pow.{pow-add, pow-pos, pow-mono, shl-lt, shl-shr}
-use lib.Ieee.{Float, nan, inf, fin, binary64, up, down, size, units, round, add, sub, toBits}
+use lib.Ieee.{Float, nan, inf, fin, Format, prec, emax, low, hid, up, down, size, units, round, add, sub, toBits}
 use lib.Ieee.Digits.{size-lt, size-le}
-use lib.Ieee.Fits.{down-pos, core, round-is}
+use lib.Ieee.Fits.{down-pos, reach, core, round-is}
 use lib.Ieee.Exact.{HasValue, units-val}
 use lib.Ieee.Nearest.{closest, closest-same, nearest-ge}
 use lib.Ieee.Back.{round-whole}
@@ -19,86 +19,86 @@ use lib.Ieee.Scale.{finite, round-same}
 use lib.Ieee.Positive.{num, den}
 use Rattle.texel.proofs.Range.{plus, less, sgn, add-is, sub-is}
 
--- ---- the pattern of a value with 53 digits
-size-is : (a n : ℕ) → 2 ^ (52 + a) ≤ n → n < 2 ^ (53 + a) → size n - 53 ≡ a
-size-is a n l h =
-    let x = size-le n (53 + a) h in
-    let y : 52 + a < size n = lt-of-not-le (λ (g : size n ≤ 52 + a). not-le-of-lt (size-lt n) (le-trans (pow-mono g) l)) in
+-- ---- the pattern of a value that has all the digits of its format
+size-is : (p a n : ℕ) → 2 ^ (p - 1 + a) ≤ n → n < 2 ^ (p + a) → size n - p ≡ a
+size-is p a n l h =
+    let x = size-le n (p + a) h in
+    let y : p - 1 + a < size n = lt-of-not-le (λ (g : size n ≤ p - 1 + a). not-le-of-lt (size-lt n) (le-trans (pow-mono g) l)) in
     omega arith
 
-pattern-of : (x : Float) (q k : ℕ) → HasValue x false (q * 2 ^ k) (2 ^ 1074) → 2 ^ 52 ≤ q → q < 2 ^ 53 → toBits binary64 x ≡ k * 2 ^ 52 + q
+pattern-of : (f : Format) (x : Float) (q k : ℕ) → HasValue x false (q * 2 ^ k) (2 ^ low f) → hid f ≤ q → q < 2 ^ prec f → toBits f x ≡ k * hid f + q
 unfolding toBits
-pattern-of nan q k v l h = absurd v
-pattern-of (inf s) q k v l h = absurd v
-pattern-of (fin true m e) q k v l h = absurd (subst T (v .0) tt)
-pattern-of (fin false m e) q k v l h =
-    let whole : m * up e * 2 ^ 1074 / down e ≡ q * 2 ^ k = ap (λ (z : ℕ). z / down e) (v .1) ∙ mul-div-cancel (q * 2 ^ k) (down-pos e) in
-    let dropped : size (m * up e * 2 ^ 1074 / down e) - 53 ≡ k = ap (λ (z : ℕ). size z - 53) whole ∙ size-is k (q * 2 ^ k) (le-trans (le-of-eq (pow-add 2 52 k)) (mul-le-mul-right (2 ^ k) l)) (shl-lt 53 k h) in
-    ap (λ (z : ℕ). 0 + z * 2 ^ 52 + m * up e * 2 ^ 1074 / down e / 2 ^ z) dropped ∙ ap (λ (z : ℕ). 0 + k * 2 ^ 52 + z / 2 ^ k) whole ∙ ap (λ (z : ℕ). 0 + k * 2 ^ 52 + z) (shl-shr q k) ∙ plain (k * 2 ^ 52) q
+pattern-of f nan q k v l h = absurd v
+pattern-of f (inf s) q k v l h = absurd v
+pattern-of f (fin true m e) q k v l h = absurd (subst T (v .0) tt)
+pattern-of f (fin false m e) q k v l h =
+    let whole : m * up e * 2 ^ low f / down e ≡ q * 2 ^ k = ap (λ (z : ℕ). z / down e) (v .1) ∙ mul-div-cancel (q * 2 ^ k) (down-pos e) in
+    let dropped : size (m * up e * 2 ^ low f / down e) - prec f ≡ k = ap (λ (z : ℕ). size z - prec f) whole ∙ size-is (prec f) k (q * 2 ^ k) (le-trans (le-of-eq (pow-add 2 (prec f - 1) k)) (mul-le-mul-right (2 ^ k) l)) (shl-lt (prec f) k h) in
+    ap (λ (z : ℕ). 0 + z * hid f + m * up e * 2 ^ low f / down e / 2 ^ z) dropped ∙ ap (λ (z : ℕ). 0 + k * hid f + z / 2 ^ k) whole ∙ ap (λ (z : ℕ). 0 + k * hid f + z) (shl-shr q k) ∙ plain (k * hid f) q
   where
     plain : (a b : ℕ) → 0 + a + b ≡ a + b
     plain a b = omega arith
 
--- ---- a fraction n / d from 2^(52 - g) up to 2^(53 - g), rounded
-module _ (n d g : ℕ) (some : 0 < d) (few : g ≤ 1074) (least : 2 ^ 52 * d ≤ n * 2 ^ g) (most : closest (n * 2 ^ g) d < 2 ^ 53) where
-  scaled : n * 2 ^ 1074 ≡ n * 2 ^ g * 2 ^ (1074 - g)
-  scaled = ap (λ (z : ℕ). n * 2 ^ z) (whole g few) ∙ ap (λ (z : ℕ). n * z) (pow-add 2 g (1074 - g)) ∙ sym (mul-assoc n (2 ^ g) (2 ^ (1074 - g)))
+-- ---- a fraction n / d from 2^(p - 1 - g) up to 2^(p - g), rounded
+module _ (f : Format) (n d g : ℕ) (some : 0 < d) (few : g ≤ low f) (least : hid f * d ≤ n * 2 ^ g) (most : closest (n * 2 ^ g) d < 2 ^ prec f) where
+  scaled : n * 2 ^ low f ≡ n * 2 ^ g * 2 ^ (low f - g)
+  scaled = ap (λ (z : ℕ). n * 2 ^ z) (whole (low f) g few) ∙ ap (λ (z : ℕ). n * z) (pow-add 2 g (low f - g)) ∙ sym (mul-assoc n (2 ^ g) (2 ^ (low f - g)))
     where
-      whole : (g : ℕ) → g ≤ 1074 → 1074 ≡ g + (1074 - g)
-      whole g h = omega arith
+      whole : (l g : ℕ) → g ≤ l → l ≡ g + (l - g)
+      whole l g h = omega arith
 
-  at-least : 2 ^ 52 ≤ closest (n * 2 ^ g) d
+  at-least : hid f ≤ closest (n * 2 ^ g) d
   at-least = le-trans (le-div-iff-mul-le some .1 least) (nearest-ge (n * 2 ^ g / d) (compare (n * 2 ^ g % d * 2) d))
 
-  under : n * 2 ^ g / d < 2 ^ 53
+  under : n * 2 ^ g / d < 2 ^ prec f
   under = lt-of-le-of-lt (nearest-ge (n * 2 ^ g / d) (compare (n * 2 ^ g % d * 2) d)) most
 
   -- the place of the last digit that is kept
-  kept : size (n * 2 ^ 1074 / d) - 53 ≡ 1074 - g
+  kept : size (n * 2 ^ low f / d) - prec f ≡ low f - g
   kept =
-      size-is (1074 - g) (n * 2 ^ 1074 / d)
-      (le-div-iff-mul-le some .1 (le-trans (le-of-eq (ap (λ (z : ℕ). z * d) (pow-add 2 52 (1074 - g)) ∙ mul-right-comm (2 ^ 52) (2 ^ (1074 - g)) d)) (le-trans (mul-le-mul-right (2 ^ (1074 - g)) least) (le-of-eq (sym scaled)))))
+      size-is (prec f) (low f - g) (n * 2 ^ low f / d)
+      (le-div-iff-mul-le some .1 (le-trans (le-of-eq (ap (λ (z : ℕ). z * d) (pow-add 2 (prec f - 1) (low f - g)) ∙ mul-right-comm (hid f) (2 ^ (low f - g)) d)) (le-trans (mul-le-mul-right (2 ^ (low f - g)) least) (le-of-eq (sym scaled)))))
       (div-lt-iff-lt-mul some .1
       (lt-of-le-of-lt (le-of-eq scaled)
-      (lt-of-lt-of-le (mul-lt-mul-of-pos-right (div-lt-iff-lt-mul some .0 under) (pow-pos (1074 - g))) (le-of-eq (mul-right-comm (2 ^ 53) d (2 ^ (1074 - g)) ∙ ap (λ (z : ℕ). z * d) (sym (pow-add 2 53 (1074 - g))))))))
+      (lt-of-lt-of-le (mul-lt-mul-of-pos-right (div-lt-iff-lt-mul some .0 under) (pow-pos (low f - g))) (le-of-eq (mul-right-comm (2 ^ prec f) d (2 ^ (low f - g)) ∙ ap (λ (z : ℕ). z * d) (sym (pow-add 2 (prec f) (low f - g))))))))
 
-  pub value : HasValue (round binary64 false n d) false (closest (n * 2 ^ g) d * 2 ^ (1074 - g)) (2 ^ 1074)
+  pub value : HasValue (round f false n d) false (closest (n * 2 ^ g) d * 2 ^ (low f - g)) (2 ^ low f)
   value =
-      subst (λ (x : Float). HasValue x false (closest (n * 2 ^ g) d * 2 ^ (1074 - g)) (2 ^ 1074))
-      (sym (round-is binary64 false n d ∙ ap (core binary64 false (n * 2 ^ 1074) d) kept ∙ ap (λ (q : ℕ). units binary64 false q (1074 - g)) same))
-      (units-val binary64 false (closest (n * 2 ^ g) d) (1074 - g) (lt-of-lt-of-le (shl-lt 53 (1074 - g) most) (pow-mono (room g))))
+      subst (λ (x : Float). HasValue x false (closest (n * 2 ^ g) d * 2 ^ (low f - g)) (2 ^ low f))
+      (sym (round-is f false n d ∙ ap (core f false (n * 2 ^ low f) d) kept ∙ ap (λ (q : ℕ). units f false q (low f - g)) same))
+      (units-val f false (closest (n * 2 ^ g) d) (low f - g) (lt-of-lt-of-le (shl-lt (prec f) (low f - g) most) (pow-mono (room (prec f) (suc (emax f)) (low f) (reach f)))))
     where
-      same : closest (n * 2 ^ 1074) (d * 2 ^ (1074 - g)) ≡ closest (n * 2 ^ g) d
-      same = closest-same (n * 2 ^ 1074) (d * 2 ^ (1074 - g)) (n * 2 ^ g) d (mul-pos some (pow-pos (1074 - g))) some (ap (λ (z : ℕ). z * d) scaled ∙ mul-assoc (n * 2 ^ g) (2 ^ (1074 - g)) d ∙ ap (λ (z : ℕ). n * 2 ^ g * z) (mul-comm (2 ^ (1074 - g)) d))
+      same : closest (n * 2 ^ low f) (d * 2 ^ (low f - g)) ≡ closest (n * 2 ^ g) d
+      same = closest-same (n * 2 ^ low f) (d * 2 ^ (low f - g)) (n * 2 ^ g) d (mul-pos some (pow-pos (low f - g))) some (ap (λ (z : ℕ). z * d) scaled ∙ mul-assoc (n * 2 ^ g) (2 ^ (low f - g)) d ∙ ap (λ (z : ℕ). n * 2 ^ g * z) (mul-comm (2 ^ (low f - g)) d))
 
-      room : (g : ℕ) → 53 + (1074 - g) ≤ 1074 + 1024
-      room g = omega arith
+      room : (p q l : ℕ) → p ≤ q → p + (l - g) ≤ l + q
+      room p q l h = omega arith
 
-  pub rounded-bits : toBits binary64 (round binary64 false n d) ≡ (1074 - g) * 2 ^ 52 + closest (n * 2 ^ g) d
-  rounded-bits = pattern-of (round binary64 false n d) (closest (n * 2 ^ g) d) (1074 - g) value at-least most
+  pub rounded-bits : toBits f (round f false n d) ≡ (low f - g) * hid f + closest (n * 2 ^ g) d
+  rounded-bits = pattern-of f (round f false n d) (closest (n * 2 ^ g) d) (low f - g) value at-least most
 
-  pub rounded-finite : T (finite (round binary64 false n d))
-  rounded-finite = go (round binary64 false n d) value
+  pub rounded-finite : T (finite (round f false n d))
+  rounded-finite = go (round f false n d) value
     where
-      go : (x : Float) → HasValue x false (closest (n * 2 ^ g) d * 2 ^ (1074 - g)) (2 ^ 1074) → T (finite x)
+      go : (x : Float) → HasValue x false (closest (n * 2 ^ g) d * 2 ^ (low f - g)) (2 ^ low f) → T (finite x)
       go nan v = absurd v
       go (inf s) v = absurd v
       go (fin s m e) v = tt
 
--- a whole number of 2 ^ 1074 units
-pub whole-value : (x : Float) (q : ℕ) → HasValue x false (q * 2 ^ 1074) (2 ^ 1074) → HasValue x false q 1
-whole-value nan q v = absurd v
-whole-value (inf s) q v = absurd v
-whole-value (fin s m e) q v = (v .0, mul-one (m * up e) ∙ eq-of-mul-eq-mul-right (2 ^ 1074) (pow-pos 1074) (m * up e) (q * down e) (v .1 ∙ mul-right-comm q (2 ^ 1074) (down e)))
+-- a whole number of 2 ^ low f units
+pub whole-value : (f : Format) (x : Float) (q : ℕ) → HasValue x false (q * 2 ^ low f) (2 ^ low f) → HasValue x false q 1
+whole-value f nan q v = absurd v
+whole-value f (inf s) q v = absurd v
+whole-value f (fin s m e) q v = (v .0, mul-one (m * up e) ∙ eq-of-mul-eq-mul-right (2 ^ low f) (pow-pos (low f)) (m * up e) (q * down e) (v .1 ∙ mul-right-comm q (2 ^ low f) (down e)))
 
 -- ---- a value x with c added, as one fraction over x's denominator
-pub record Moved (x m : Float) (c : ℕ) : Type 0 where
+pub record Moved (f : Format) (x m : Float) (c : ℕ) : Type 0 where
   pub size : ℕ
-  pub is : add binary64 x m ≡ round binary64 false size (den x)
+  pub is : add f x m ≡ round f false size (den x)
   pub val : size + less (sgn x) (num x) ≡ plus (sgn x) (num x) + c * den x
 
-pub moved : (x : Float) (a j : ℕ) → T (finite x) → num x < a * 2 ^ j * den x → Moved x (fin false a (pos j)) (a * 2 ^ j)
-moved x a j f h = go (add-is binary64 x (fin false a (pos j)) f tt .sign) (add-is binary64 x (fin false a (pos j)) f tt .size) (add-is binary64 x (fin false a (pos j)) f tt .is) (add-is binary64 x (fin false a (pos j)) f tt .val)
+pub moved : (f : Format) (x : Float) (a j : ℕ) → T (finite x) → num x < a * 2 ^ j * den x → Moved f x (fin false a (pos j)) (a * 2 ^ j)
+moved f x a j t h = let k = add-is f x (fin false a (pos j)) t tt in go (k .sign) (k .size) (k .is) (k .val)
   where
     less-le : (s : Bool) (n : ℕ) → less s n ≤ n
     less-le true n = le-of-eq refl
@@ -110,17 +110,17 @@ moved x a j f h = go (add-is binary64 x (fin false a (pos j)) f tt .sign) (add-i
     plain : (n l p c : ℕ) → n + (l + 0) ≡ p + c + 0 → n + l ≡ p + c
     plain n l p c e = omega arith
 
-    go : (s : Bool) (n : ℕ) → add binary64 x (fin false a (pos j)) ≡ round binary64 s n (den x * 1)
-        → plus s n + (less (sgn x) (num x * 1) + 0) ≡ plus (sgn x) (num x * 1) + a * 2 ^ j * den x + less s n → Moved x (fin false a (pos j)) (a * 2 ^ j)
+    go : (s : Bool) (n : ℕ) → add f x (fin false a (pos j)) ≡ round f s n (den x * 1)
+        → plus s n + (less (sgn x) (num x * 1) + 0) ≡ plus (sgn x) (num x * 1) + a * 2 ^ j * den x + less s n → Moved f x (fin false a (pos j)) (a * 2 ^ j)
     go true n e v =
         absurd (clash (less (sgn x) (num x * 1)) (plus (sgn x) (num x * 1)) (a * 2 ^ j * den x) n v (lt-of-le-of-lt (le-trans (less-le (sgn x) (num x * 1)) (le-of-eq (mul-one (num x)))) h))
     go false n e v = record {
       size = n;
-      is = e ∙ ap (round binary64 false n) (mul-one (den x));
+      is = e ∙ ap (round f false n) (mul-one (den x));
       val = plain n (less (sgn x) (num x)) (plus (sgn x) (num x)) (a * 2 ^ j * den x) (subst (λ (z : ℕ). n + (less (sgn x) z + 0) ≡ plus (sgn x) z + a * 2 ^ j * den x + 0) (mul-one (num x)) v);
     }
 
--- ---- a whole number q less c, both within 53 digits: the difference is exact
+-- ---- a whole number q less c, both within the format's digits: the difference is exact
 pub record Back (z : Float) (q c : ℕ) : Type 0 where
   pub sign : Bool
   pub size : ℕ
@@ -135,27 +135,27 @@ apart l s d n D h =
     let p : (l - s) * d + s * d ≡ l * d = sym (add-mul (l - s) s d) ∙ ap (λ (z : ℕ). z * d) e in
     (k, omega arith)
 
-exact : (z : Float) (s : Bool) (n k d : ℕ) → 0 < d → z ≡ round binary64 s n (d * 1) → n ≡ k * d → k ≤ 2 ^ 53 → HasValue z s k 1
-exact z s n k d D i e h =
+exact : (f : Format) (z : Float) (s : Bool) (n k d : ℕ) → 0 < d → z ≡ round f s n (d * 1) → n ≡ k * d → k ≤ 2 ^ prec f → HasValue z s k 1
+exact f z s n k d D i e h =
     subst (λ (x : Float). HasValue x s k 1)
-    (sym (i ∙ ap (λ (a : ℕ). round binary64 s a (d * 1)) e ∙ round-same binary64 s (k * d) (d * 1) k 1 (mul-pos D (lit< tt)) (lit< tt) (mul-assoc k d 1)))
-    (round-whole binary64 s k h)
+    (sym (i ∙ ap (λ (a : ℕ). round f s a (d * 1)) e ∙ round-same f s (k * d) (d * 1) k 1 (mul-pos D (lit< tt)) (lit< tt) (mul-assoc k d 1)))
+    (round-whole f s k h)
 
-pub back : (y : Float) (q a j : ℕ) → HasValue y false q 1 → q ≤ 2 ^ 53 → a * 2 ^ j ≤ 2 ^ 53 → Back (sub binary64 y (fin false a (pos j))) q (a * 2 ^ j)
-back nan q a j v Q C = absurd v
-back (inf s) q a j v Q C = absurd v
-back (fin true m e) q a j v Q C = absurd (subst T (v .0) tt)
-back (fin false m e) q a j v Q C =
-    let k = sub-is binary64 (fin false m e) (fin false a (pos j)) tt tt in
+pub back : (f : Format) (y : Float) (q a j : ℕ) → HasValue y false q 1 → q ≤ 2 ^ prec f → a * 2 ^ j ≤ 2 ^ prec f → Back (sub f y (fin false a (pos j))) q (a * 2 ^ j)
+back f nan q a j v Q C = absurd v
+back f (inf s) q a j v Q C = absurd v
+back f (fin true m e) q a j v Q C = absurd (subst T (v .0) tt)
+back f (fin false m e) q a j v Q C =
+    let k = sub-is f (fin false m e) (fin false a (pos j)) tt tt in
     go (k .sign) (k .size) (k .is) (subst (λ (n : ℕ). plus (k .sign) (k .size) + (0 * 1 + a * 2 ^ j * down e) ≡ n * 1 + 0 * down e + less (k .sign) (k .size)) (sym (mul-one (m * up e)) ∙ v .1) (k .val))
   where
-    go : (s : Bool) (n : ℕ) → sub binary64 (fin false m e) (fin false a (pos j)) ≡ round binary64 s n (down e * 1)
-        → plus s n + (0 * 1 + a * 2 ^ j * down e) ≡ q * down e * 1 + 0 * down e + less s n → Back (sub binary64 (fin false m e) (fin false a (pos j))) q (a * 2 ^ j)
+    go : (s : Bool) (n : ℕ) → sub f (fin false m e) (fin false a (pos j)) ≡ round f s n (down e * 1)
+        → plus s n + (0 * 1 + a * 2 ^ j * down e) ≡ q * down e * 1 + 0 * down e + less s n → Back (sub f (fin false m e) (fin false a (pos j))) q (a * 2 ^ j)
     go true n i h =
         let k = apart (a * 2 ^ j) q (down e) n (down-pos e) (omega arith) in
         let l = k .0 in
-        record { sign = true; size = a * 2 ^ j - q; value = exact _ true n (a * 2 ^ j - q) (down e) (down-pos e) i (k .1) (omega arith); val = omega arith }
+        record { sign = true; size = a * 2 ^ j - q; value = exact f _ true n (a * 2 ^ j - q) (down e) (down-pos e) i (k .1) (omega arith); val = omega arith }
     go false n i h =
         let k = apart q (a * 2 ^ j) (down e) n (down-pos e) (omega arith) in
         let l = k .0 in
-        record { sign = false; size = q - a * 2 ^ j; value = exact _ false n (q - a * 2 ^ j) (down e) (down-pos e) i (k .1) (omega arith); val = omega arith }
+        record { sign = false; size = q - a * 2 ^ j; value = exact f _ false n (q - a * 2 ^ j) (down e) (down-pos e) i (k .1) (omega arith); val = omega arith }
