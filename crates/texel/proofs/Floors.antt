@@ -1,30 +1,29 @@
--- The floor of an x of magnitude up to 2^23. Raised by 2^23 its fraction is n / d with no sign, and the floor is the quotient of n by d, less
--- 2^23. One f64 sum gives the whole number nearest to the raised x: the quotient, or one more, which then is above x. Assumes nothing.
+-- The floor of an x of magnitude up to 2^23, as a float. Raised by 2^23 its fraction is n / d with no sign, and the floor is the quotient of n by
+-- d, less 2^23. One sum gives the whole number nearest to the raised x: the quotient, or one more, which then is above x. Assumes nothing.
 use mathlib.Core.Path.{_≡_, refl, sym, ap, _∙_, subst, subst₂}
 use mathlib.Core.Logic.{_⊎_, inl, inr}
-use mathlib.Core.Bool.{Bool, true, false, not}
+use mathlib.Core.Bool.{Bool, true, false, not, _&&_, cond}
 use Prim.Native.Nat.{ℕ, zero, suc, _+_, _-_, _*_, _/_, _%_, _^_, _≤_, _<_, compare, zero-le}
-use native.Mathlib.Nat.{le-trans, le-of-eq, le-antisymm, le-of-suc-le-suc, lt-of-not-le, eq-or-lt-of-le, zero-add, zero-mul, mul-one, mul-right-comm, add-mul, mul-lt-mul-of-pos-right, lt-of-mul-lt-mul-right, div-add-mod', div-lt-iff-lt-mul, add-mul-div-right, mod-lt}
+use native.Mathlib.Nat.{le-trans, le-of-eq, le-antisymm, le-of-suc-le-suc, lt-of-not-le, lt-of-le-of-lt, eq-or-lt-of-le, zero-add, zero-mul, mul-one, mul-pos, mul-right-comm, add-mul, mul-lt-mul-of-pos-right, lt-of-mul-lt-mul-right, div-add-mod', div-lt-iff-lt-mul, add-mul-div-right, mod-lt}
 use native.Mathlib.Omega.{arith}
-use lib.IntN.{ℤ, pos, negsuc, negℤ, subℕ, predℤ, _-ℤ_, -ℤ-one}
-use lib.Dec.{T, lt→ltb, le→leb, lit<, lit≤}
+use lib.IntN.{ℤ, pos, negsuc, negℤ, natAbs, subℕ, predℤ, _+ℤ_, -ℤ-one}
+use lib.Dec.{T, ltb, lit<, lit≤}
 use lib.Arith.{digits-div}
-use lib.Signed.{mag}
-use lib.Ieee.{Float, nan, inf, fin, binary32, binary64, up, down, round, sub, lt, add, ofInt, inFloat, toBits, isNan}
-use lib.Ieee.Fits.{down-pos, nearest-le}
+use lib.Ieee.{Float, nan, inf, fin, Format, binary32, binary64, up, down, prec, low, hid, round, sub, le, lt, add, ofInt, fits, isNan}
+use lib.Ieee.Fits.{down-pos, nearest-le, and-i, ofInt-fits}
 use lib.Ieee.Nearest.{closest, nearest-ge}
 use lib.Ieee.Exact.{HasValue}
-use lib.Ieee.Back.{round-whole}
 use lib.Ieee.Scale.{finite}
 use lib.Ieee.Positive.{num, den, den-pos}
 use native.Mathlib.Decide.{decLe}
-use borrow.Author.Tests.{lt-ltb, le-ltb}
+use borrow.Author.Tests.{lt-ltb, le-ltb, ltb-true, ltb-false}
 use Rattle.rules.specs.Floats.{Between}
 use Rattle.rules.specs.Whole.{floorOf}
-use Rattle.texel.specs.Ends.{low23, high23}
-use Rattle.texel.proofs.Range.{plus, less, sgn, le→, lt→, →lt, Between-finite}
+use Rattle.texel.specs.Ends.{low23, high23, low12, high12}
+use Rattle.texel.proofs.Range.{plus, less, sgn, le→, lt→, →lt, le-trans-finite, Between-finite}
+use Rattle.texel.proofs.Wholes.{below-zero, value-finite, int-is, sub-int, narrow}
 use Rattle.texel.proofs.Patterns.{no-nan}
-use Rattle.texel.proofs.Sums.{Moved, moved, value, rounded-bits, rounded-finite, whole-value, Back, back}
+use Rattle.texel.proofs.Sums.{Moved, moved, value, whole-value}
 
 -- ---- u - 2^23 as a signed number
 below : (u : ℕ) → u < 8388608 → subℕ u 8388608 ≡ negsuc (8388608 - suc u)
@@ -33,55 +32,33 @@ below u h = rw (lt-ltb u 8388608 h)
 above : (u : ℕ) → 8388608 ≤ u → subℕ u 8388608 ≡ pos (u - 8388608)
 above u h = rw (le-ltb u 8388608 h)
 
--- its f32, for a u up to 2^24 and a little more: ±k with the difference
-pub record Lowered (u : ℕ) (z : ℤ) : Type 0 where
-  pub sign : Bool
-  pub size : ℕ
-  pub value : HasValue (ofInt binary32 z) sign size 1
-  pub val : plus sign size + 8388608 ≡ u + less sign size
-  pub held : T (inFloat binary32 z)
-  pub room : mag z < 2 ^ 63
-  pub before : mag (z -ℤ pos 1) < 2 ^ 63
-
 or-above : (u : ℕ) → (u < 8388608) ⊎ (8388608 ≤ u)
 or-above u = elim (decLe 8388608 u) [ yes h ↦ inr h | no n ↦ inl (lt-of-not-le n) ]
 
--- and of the number before it
-pred-small : (k : ℕ) → k < 2 ^ 62 → mag (pos k -ℤ pos 1) < 2 ^ 63
-pred-small zero h = lit< tt
-pred-small (suc k) h = subst (λ (z : ℤ). mag z < 2 ^ 63) (sym (-ℤ-one (pos (suc k)))) (omega arith)
-
-pub lowered : (u : ℕ) → u ≤ 16777217 → Lowered u (subℕ u 8388608)
-unfolding ofInt inFloat
-lowered u h = go (or-above u)
+-- its sign and its size
+pub lowered : (u : ℕ) (z : ℤ) → subℕ u 8388608 ≡ z → plus (below-zero z) (natAbs z) + 8388608 ≡ u + less (below-zero z) (natAbs z)
+lowered u z e = subst (λ (z : ℤ). plus (below-zero z) (natAbs z) + 8388608 ≡ u + less (below-zero z) (natAbs z)) e (go (or-above u))
   where
-    low : (k : ℕ) → suc k ≡ 8388608 - u → u < 8388608 → Lowered u (negsuc k)
-    low k e l = record {
-      sign = true;
-      size = suc k;
-      value = round-whole binary32 true (suc k) (omega arith);
-      val = omega arith;
-      held = lt→ltb k (2 ^ 24) (omega arith);
-      room = omega arith;
-      before = omega arith;
-    }
+    go : (u < 8388608) ⊎ (8388608 ≤ u) → plus (below-zero (subℕ u 8388608)) (natAbs (subℕ u 8388608)) + 8388608 ≡ u + less (below-zero (subℕ u 8388608)) (natAbs (subℕ u 8388608))
+    go (inl l) = rw (below u l) (omega arith)
+    go (inr g) = rw (above u g) (omega arith)
 
-    high : (k : ℕ) → k + 8388608 ≡ u → Lowered u (pos k)
-    high k e = record {
-      sign = false;
-      size = k;
-      value = round-whole binary32 false k (omega arith);
-      val = omega arith;
-      held = le→leb k (2 ^ 24) (omega arith);
-      room = omega arith;
-      before = pred-small k (omega arith);
-    }
+pub lowered-near : (u : ℕ) → u ≤ 16777217 → natAbs (subℕ u 8388608) ≤ 8388609
+lowered-near u h = go (or-above u)
+  where
+    go : (u < 8388608) ⊎ (8388608 ≤ u) → natAbs (subℕ u 8388608) ≤ 8388609
+    go (inl l) = rw (below u l) (omega arith)
+    go (inr g) = rw (above u g) (omega arith)
 
-    go : (u < 8388608) ⊎ (8388608 ≤ u) → Lowered u (subℕ u 8388608)
-    go (inl l) = subst (Lowered u) (sym (below u l)) (low (8388608 - suc u) (omega arith) l)
-    go (inr g) = subst (Lowered u) (sym (above u g)) (high (u - 8388608) (omega arith))
+-- both with E more
+more : (a b E : ℕ) → subℕ (a + E) (b + E) ≡ subℕ a b
+more a b E = go (ltb a b) refl
+  where
+    go : (t : Bool) → ltb a b ≡ t → subℕ (a + E) (b + E) ≡ cond t (negsuc (b - suc a)) (pos (a - b))
+    go true e = let l = ltb-true a b e in rw (lt-ltb (a + E) (b + E) (omega arith)) (ap negsuc (omega arith))
+    go false e = let l = ltb-false a b e in rw (le-ltb (a + E) (b + E) (omega arith)) (ap pos (omega arith))
 
-pub lowered-pred : (u : ℕ) → subℕ (suc u) 8388608 -ℤ pos 1 ≡ subℕ u 8388608
+lowered-pred : (u : ℕ) → subℕ (suc u) 8388608 +ℤ negsuc 0 ≡ subℕ u 8388608
 lowered-pred u = -ℤ-one (subℕ (suc u) 8388608) ∙ go (or-above u)
   where
     next : (a k : ℕ) → a ≡ suc k → predℤ (pos a) ≡ pos k
@@ -221,89 +198,197 @@ module _ (x b : Float) (f : T (finite x)) (s : Bool) (k u n : ℕ) (v : HasValue
           (subst₂ (λ (y z : ℕ). plus (sgn x) (num x) * down e + z * den x < y * den x + less (sgn x) (num x) * down e) (sym (plus-of c s (m * up e) k (down e) (v .0) q)) (sym (less-of c s (m * up e) k (down e) (v .0) q))
           (cross-from (plus (sgn x) (num x)) (less (sgn x) (num x)) (plus s k) (less s k) (den x) (down e) (down-pos e) (omega arith)))
 
--- ---- the f64 sum
+-- ---- the sum x + c in a format f, c being E + 2^23, where it lies so high that its last place is 1
 size-le : (s : Bool) (a n d : ℕ) → n + less s a ≡ plus s a + 8388608 * d → n ≤ 16777216 * d → a ≤ 8388608 * d
 size-le true a n d e h = omega arith
 size-le false a n d e h = omega arith
 
-module _ (x : Float) (b : Between low23 x high23) where
+module _ (f : Format) (a j E : ℕ) (c : a * 2 ^ j ≡ E + 8388608) (some : 0 < E) (x : Float) (b : Between low23 x high23)
+  (least : hid f * den x ≤ raised x b .n + E * den x) (most : suc (raised x b .n / den x + E) < 2 ^ prec f) (room : E + 8388608 ≤ 2 ^ prec f) (big : 8388609 ≤ 2 ^ prec f) where
   abbrev n : ℕ
   n = raised x b .n
 
   abbrev d : ℕ
   d = den x
 
+  abbrev added : Float
+  added = fin false a (pos j)
+
   finite-x : T (finite x)
   finite-x = Between-finite low23 x high23 tt tt b
 
-  sum : Moved binary64 x (fin false 536870913 (pos 23)) 4503599635759104
-  sum = let h = size-le (sgn x) (num x) n d (raised x b .val) (raised x b .few) in let l = den-pos x in moved binary64 x 536870913 23 finite-x (omega arith)
+  scaled : a * 2 ^ j * d ≡ E * d + 8388608 * d
+  scaled = ap (λ (z : ℕ). z * d) c ∙ add-mul E 8388608 d
 
-  size-is : sum .size * 2 ^ 0 ≡ n + 2 ^ 52 * d
-  size-is = let u = sum .val in let v = raised x b .val in omega arith
+  sum : Moved f x added (a * 2 ^ j)
+  sum =
+      let h = size-le (sgn x) (num x) n d (raised x b .val) (raised x b .few) in
+      let l = mul-pos some (den-pos x) in
+      let k = scaled in
+      moved f x a j finite-x (omega arith)
 
-  quotient : sum .size * 2 ^ 0 / d ≡ n / d + 2 ^ 52
-  quotient = ap (λ (z : ℕ). z / d) size-is ∙ add-mul-div-right n (2 ^ 52) (den-pos x)
+  size-is : sum .size * 2 ^ 0 ≡ n + E * d
+  size-is = let u = sum .val in let v = raised x b .val in let k = scaled in omega arith
+
+  quotient : sum .size * 2 ^ 0 / d ≡ n / d + E
+  quotient = ap (λ (z : ℕ). z / d) size-is ∙ add-mul-div-right n E (den-pos x)
 
   small : n / d ≤ 16777216
   small = let h = raised x b .few in let l = den-pos x in le-of-suc-le-suc (div-lt-iff-lt-mul (den-pos x) .1 (omega arith))
 
   -- the whole number nearest to the sum, which is rounded once, is the quotient or one more
-  low : n / d + 2 ^ 52 ≤ closest (sum .size * 2 ^ 0) d
-  low = le-trans (le-of-eq (sym quotient)) (nearest-ge (sum .size * 2 ^ 0 / d) (compare (sum .size * 2 ^ 0 % d * 2) d))
+  abbrev whole : ℕ
+  whole = closest (sum .size * 2 ^ 0) d
 
-  high : closest (sum .size * 2 ^ 0) d ≤ suc (n / d + 2 ^ 52)
+  from-low : n / d + E ≤ whole
+  from-low = le-trans (le-of-eq (sym quotient)) (nearest-ge (sum .size * 2 ^ 0 / d) (compare (sum .size * 2 ^ 0 % d * 2) d))
+
+  high : whole ≤ suc (n / d + E)
   high = le-trans (nearest-le (sum .size * 2 ^ 0 / d) (compare (sum .size * 2 ^ 0 % d * 2) d)) (le-of-eq (ap suc quotient))
 
-  least : 2 ^ 52 * d ≤ sum .size * 2 ^ 0
-  least = let k = size-is in omega arith
+  -- that less E
+  abbrev u : ℕ
+  u = whole - E
 
-  most : closest (sum .size * 2 ^ 0) d < 2 ^ 53
-  most = let h = high in let l = small in omega arith
+  between : (n / d ≤ u) × (u ≤ suc (n / d))
+  between = let h = high in let l = from-low in (omega arith, omega arith)
 
-  -- the low 52 bits of the sum's pattern
-  abbrev pub low-bits : ℕ
-  low-bits = toBits binary64 (add binary64 x (fin false 536870913 (pos 23))) % 2 ^ 52
+  sum-is : HasValue (add f x added) false whole 1
+  sum-is =
+      subst (λ (y : Float). HasValue y false whole 1) (sym (sum .is))
+      (whole-value f (round f false (sum .size) d) whole
+      (subst (λ (k : ℕ). HasValue (round f false (sum .size) d) false (whole * 2 ^ k) (2 ^ low f)) (all (low f))
+      (value f (sum .size) d 0 (den-pos x) zero-le (le-trans least (le-of-eq (sym size-is))) (lt-of-le-of-lt high most))))
+    where
+      all : (n : ℕ) → n - 0 ≡ n
+      all n = omega arith
 
-  bits-are : low-bits ≡ closest (sum .size * 2 ^ 0) d - 2 ^ 52
-  bits-are =
-      let h = high in
-      let l = low in
-      let k = small in
-      ap (λ (y : Float). toBits binary64 y % 2 ^ 52) (sum .is) ∙ ap (λ (z : ℕ). z % 2 ^ 52) (rounded-bits binary64 (sum .size) d 0 (den-pos x) zero-le least most) ∙ omega arith
+  -- the sum less what was added is that whole number less 2^23
+  abbrev pub near : Float
+  near = sub f (add f x added) added
 
-  between : (n / d ≤ low-bits) × (low-bits ≤ suc (n / d))
-  between = let e = bits-are in let h = high in let l = low in (omega arith, omega arith)
+  near-is : near ≡ ofInt f (subℕ u 8388608)
+  near-is =
+      sub-int f (add f x added) added (pos whole) (E + 8388607) sum-is (refl, omega (arith, c)) (let l = lt-of-le-of-lt high most in omega arith) (omega (arith, room))
+      (subst (λ (z : ℤ). natAbs z ≤ 2 ^ prec f) (sym apart) (le-trans (lowered-near u few) big))
+      ∙ ap (ofInt f) apart
+    where
+      few : u ≤ 16777217
+      few = let h = between .1 in let l = small in omega arith
 
-  pub sum-no-nan : T (not (isNan (add binary64 x (fin false 536870913 (pos 23)))))
-  sum-no-nan = no-nan _ (subst (λ (y : Float). T (finite y)) (sym (sum .is)) (rounded-finite binary64 (sum .size) d 0 (den-pos x) zero-le least most))
+      apart : subℕ whole (suc (E + 8388607)) ≡ subℕ u 8388608
+      apart = ap (λ (z : ℕ). subℕ z (suc (E + 8388607))) (back whole E low') ∙ ap (subℕ (u + E)) (turn E) ∙ more u 8388608 E
+        where
+          low' : E ≤ whole
+          low' = let l = from-low in omega arith
 
-  pub whole : Lowered low-bits (subℕ low-bits 8388608)
-  whole = let h = between .1 in let l = small in lowered low-bits (omega arith)
+          back : (w E : ℕ) → E ≤ w → w ≡ w - E + E
+          back w E h = omega arith
 
-  -- the sum less what was added is that whole number again
-  again : Back (sub binary64 (add binary64 x (fin false 536870913 (pos 23))) (fin false 536870913 (pos 23))) (closest (sum .size * 2 ^ 0) d) 4503599635759104
-  again =
-      back binary64 (add binary64 x (fin false 536870913 (pos 23))) (closest (sum .size * 2 ^ 0) d) 536870913 23
-      (subst (λ (y : Float). HasValue y false (closest (sum .size * 2 ^ 0) d) 1) (sym (sum .is)) (whole-value binary64 (round binary64 false (sum .size) d) (closest (sum .size * 2 ^ 0) d) (value binary64 (sum .size) d 0 (den-pos x) zero-le least most)))
-      (let m = most in omega arith) (lit≤ tt)
+          turn : (E : ℕ) → suc (E + 8388607) ≡ 8388608 + E
+          turn E = omega arith
 
-  beside : plus (again .sign) (again .size) + 8388608 ≡ low-bits + less (again .sign) (again .size)
-  beside = let e = bits-are in let l = low in let w = again .val in omega arith
+  near-value : HasValue near (below-zero (subℕ u 8388608)) (natAbs (subℕ u 8388608)) 1
+  near-value =
+      subst (λ (y : Float). HasValue y (below-zero (subℕ u 8388608)) (natAbs (subℕ u 8388608)) 1) (sym near-is)
+      (int-is f (subℕ u 8388608) (le-trans (lowered-near u (let h = between .1 in let l = small in omega arith)) big))
+
+  beside : n < u * d → T (lt x near)
+  beside h = from-under x near finite-x (below-zero (subℕ u 8388608)) (natAbs (subℕ u 8388608)) u n near-value (lowered u (subℕ u 8388608) refl) (raised x b .val) h
 
   -- where it is above x, the floor is the number before it; where it is not, it is the floor
-  pub floor-before : lt x (sub binary64 (add binary64 x (fin false 536870913 (pos 23))) (fin false 536870913 (pos 23))) ≡ true → subℕ low-bits 8388608 -ℤ pos 1 ≡ floorOf x
-  floor-before h =
-      let l : n < low-bits * d = under x _ finite-x (again .sign) (again .size) low-bits n (again .value) beside (raised x b .val) (subst T (sym h) tt) in
-      let k : n / d < low-bits = div-lt-iff-lt-mul (den-pos x) .1 l in
-      let e : low-bits ≡ suc (n / d) = let t = between .1 in omega arith in
-      ap (λ (z : ℕ). subℕ z 8388608 -ℤ pos 1) e ∙ lowered-pred (n / d) ∙ floor-is x b (raised x b)
-
-  pub floor-same : lt x (sub binary64 (add binary64 x (fin false 536870913 (pos 23))) (fin false 536870913 (pos 23))) ≡ false → subℕ low-bits 8388608 ≡ floorOf x
-  floor-same h = ap (λ (z : ℕ). subℕ z 8388608) e ∙ floor-is x b (raised x b)
+  pub floor-same : lt x near ≡ false → near ≡ ofInt f (floorOf x)
+  floor-same h = near-is ∙ ap (ofInt f) (ap (λ (z : ℕ). subℕ z 8388608) e ∙ floor-is x b (raised x b))
     where
-      not-above : n / d < low-bits → ⊥
-      not-above k = subst T h (from-under x _ finite-x (again .sign) (again .size) low-bits n (again .value) beside (raised x b .val) (div-lt-iff-lt-mul (den-pos x) .0 k))
+      not-above : n / d < u → ⊥
+      not-above k = subst T h (beside (div-lt-iff-lt-mul (den-pos x) .0 k))
 
-      e : low-bits ≡ n / d
+      e : u ≡ n / d
       e = le-antisymm (le-of-suc-le-suc (lt-of-not-le not-above)) (between .0)
+
+  pub floor-before : (one : Float) → HasValue one false 1 1 → lt x near ≡ true → sub f near one ≡ ofInt f (floorOf x)
+  floor-before one v h =
+      sub-int f near one (subℕ u 8388608) 0 near-value v (le-trans near-u big) (le-trans (omega arith) big) (subst (λ (z : ℤ). natAbs z ≤ 2 ^ prec f) (sym before) (le-trans near-q big))
+      ∙ ap (ofInt f) (before ∙ floor-is x b (raised x b))
+    where
+      e : u ≡ suc (n / d)
+      e =
+          let k : n / d < u = div-lt-iff-lt-mul (den-pos x) .1 (under x near finite-x (below-zero (subℕ u 8388608)) (natAbs (subℕ u 8388608)) u n near-value (lowered u (subℕ u 8388608) refl) (raised x b .val) (subst T (sym h) tt)) in
+          let t = between .1 in
+          omega arith
+
+      near-u : natAbs (subℕ u 8388608) ≤ 8388609
+      near-u = lowered-near u (let h = between .1 in let l = small in omega arith)
+
+      near-q : natAbs (subℕ (n / d) 8388608) ≤ 8388609
+      near-q = lowered-near (n / d) (let l = small in omega arith)
+
+      before : subℕ u 8388608 +ℤ negsuc 0 ≡ subℕ (n / d) 8388608
+      before = ap (λ (z : ℕ). subℕ z 8388608 +ℤ negsuc 0) e ∙ lowered-pred (n / d)
+
+-- ---- in f64, with c = 2^52 + 2^23, and in f32, with c = 2^22 + 2^23 and an x of magnitude up to 2^12
+module _ (x : Float) (b : Between low23 x high23) where
+  abbrev pub wide : Float
+  wide = sub binary64 (add binary64 x (fin false 536870913 (pos 23))) (fin false 536870913 (pos 23))
+
+  quotient-near : raised x b .n / den x ≤ 16777216
+  quotient-near = let l = raised x b .few in let D = den-pos x in le-of-suc-le-suc (div-lt-iff-lt-mul D .1 (omega arith))
+
+  most-wide : suc (raised x b .n / den x + 2 ^ 52) < 2 ^ 53
+  most-wide = let l = quotient-near in omega arith
+
+  least-wide : 2 ^ 52 * den x ≤ raised x b .n + 2 ^ 52 * den x
+  least-wide = omega arith
+
+  -- the floor is no further from 0 than 2^23, and so an f32
+  floor-small : natAbs (floorOf x) ≤ 2 ^ 24
+  floor-small = subst (λ (z : ℤ). natAbs z ≤ 2 ^ 24) (floor-is x b (raised x b)) (le-trans (lowered-near (raised x b .n / den x) (let l = quotient-near in omega arith)) (lit≤ tt))
+
+  -- so it narrows to one
+  pub narrows : (y : Float) → y ≡ ofInt binary32 (floorOf x) → T (fits binary32 y && not (isNan y))
+  narrows y e = let i = ofInt binary32 (floorOf x) in subst (λ (z : Float). T (fits binary32 z && not (isNan z))) (sym e) (and-i (fits binary32 i) (not (isNan i)) (ofInt-fits binary32 (floorOf x)) (no-nan i (value-finite i (below-zero (floorOf x)) (natAbs (floorOf x)) (int-is binary32 (floorOf x) floor-small))))
+
+  pub wide-same : lt x wide ≡ false → wide ≡ ofInt binary32 (floorOf x)
+  wide-same h = floor-same binary64 536870913 23 (2 ^ 52) refl (lit< tt) x b least-wide most-wide (lit≤ tt) (lit≤ tt) h ∙ narrow (floorOf x) floor-small
+
+  pub wide-before : (one : Float) → HasValue one false 1 1 → lt x wide ≡ true → sub binary64 wide one ≡ ofInt binary32 (floorOf x)
+  wide-before one v h = floor-before binary64 536870913 23 (2 ^ 52) refl (lit< tt) x b least-wide most-wide (lit≤ tt) (lit≤ tt) one v h ∙ narrow (floorOf x) floor-small
+
+raised-near : (x : Float) → T (finite x) → Between low12 x high12 → (n : ℕ) → n + less (sgn x) (num x) ≡ plus (sgn x) (num x) + 8388608 * den x
+    → (8384512 * den x ≤ n) × (n ≤ 8392704 * den x)
+raised-near nan f b n v = absurd f
+raised-near (inf s) f b n v = absurd f
+raised-near (fin false m e) f b n v = let h = le→ (fin false m e) high12 tt tt (b .high) in (omega arith, omega arith)
+raised-near (fin true m e) f b n v = let h = le→ low12 (fin true m e) tt tt (b .low) in (omega arith, omega arith)
+
+module _ (x : Float) (b : Between low12 x high12) where
+  finite-near : T (finite x)
+  finite-near = Between-finite low12 x high12 tt tt b
+
+  pub near-in : Between low23 x high23
+  near-in = record {
+    low = le-trans-finite low23 low12 x tt tt finite-near (unfold le in tt) (b .low);
+    high = le-trans-finite x high12 high23 finite-near tt tt (b .high) (unfold le in tt);
+  }
+
+  abbrev pub close : Float
+  close = sub binary32 (add binary32 x (fin false 3 (pos 22))) (fin false 3 (pos 22))
+
+  raised-in : (8384512 * den x ≤ raised x near-in .n) × (raised x near-in .n ≤ 8392704 * den x)
+  raised-in = raised-near x finite-near b (raised x near-in .n) (raised x near-in .val)
+
+  least-close : 8388608 * den x ≤ raised x near-in .n + 4194304 * den x
+  least-close = let h = raised-in .0 in omega arith
+
+  most-close : suc (raised x near-in .n / den x + 4194304) < 16777216
+  most-close =
+      let h = raised-in .1 in
+      let D = den-pos x in
+      let l : raised x near-in .n / den x ≤ 8392704 = le-of-suc-le-suc (div-lt-iff-lt-mul D .1 (omega arith)) in
+      omega arith
+
+  pub close-same : lt x close ≡ false → close ≡ ofInt binary32 (floorOf x)
+  close-same = floor-same binary32 3 22 4194304 refl (lit< tt) x near-in least-close most-close (lit≤ tt) (lit≤ tt)
+
+  pub close-before : (one : Float) → HasValue one false 1 1 → lt x close ≡ true → sub binary32 close one ≡ ofInt binary32 (floorOf x)
+  close-before = floor-before binary32 3 22 4194304 refl (lit< tt) x near-in least-close most-close (lit≤ tt) (lit≤ tt)

@@ -3,10 +3,10 @@
 use mathlib.Core.Path.{_≡_, refl, sym, _∙_, subst}
 use mathlib.Core.Bool.{Bool, false}
 use Prim.Native.Nat.{ℕ, _+_, _*_, _/_, _≤_, _<_}
-use native.Mathlib.Nat.{le-of-suc-le-suc, zero-lt-suc, mul-one, mul-pos, mul-right-comm, mul-le-mul-right, add-mul, div-lt-iff-lt-mul, div-add-mod', mod-lt}
+use native.Mathlib.Nat.{le-trans, le-of-suc-le-suc, zero-lt-suc, mul-one, mul-pos, mul-right-comm, mul-le-mul-right, add-mul, div-lt-iff-lt-mul, div-add-mod', mod-lt}
 use native.Mathlib.Omega.{arith}
-use lib.IntN.{ℤ, subℕ}
-use lib.Dec.{T}
+use lib.IntN.{ℤ, natAbs, subℕ}
+use lib.Dec.{T, lit≤}
 use lib.Ieee.{Float, nan, inf, fin, binary32, up, down, sub, round, ofInt, ofBits}
 use lib.Ieee.Fits.{down-pos}
 use lib.Ieee.Exact.{HasValue}
@@ -17,7 +17,8 @@ use Rattle.rules.specs.Whole.{floorOf}
 use Rattle.texel.specs.Ends.{low23, high23}
 use Rattle.texel.proofs.Range.{plus, less, sgn, sub-is, sum-in, Between-finite}
 use Rattle.texel.proofs.Unit.{ends}
-use Rattle.texel.proofs.Floors.{raised, floor-is, lowered, times, plus-of, less-of}
+use Rattle.texel.proofs.Floors.{raised, floor-is, lowered, lowered-near, times, plus-of, less-of}
+use Rattle.texel.proofs.Wholes.{below-zero, int-is}
 
 -- ±n ≤ x ≤ ±n + 1, in whole numbers: x is (p - l) / D
 abbrev Near : ℕ → ℕ → ℕ → Bool → ℕ → Type 0
@@ -61,13 +62,15 @@ fraction-in x b =
     let q = r .n / den x in
     let l = r .few in
     let d = den-pos x in
-    let w = lowered q (small (r .n) (den x) d l) in
+    let i = subℕ q 8388608 in
+    let v = int-is binary32 i (le-trans (lowered-near q (small (r .n) (den x) d l)) (lit≤ tt)) in
+    let w = lowered q i refl in
     let f = Between-finite low23 x high23 tt tt b in
-    let z = times x (ofInt binary32 (subℕ q 8388608)) f (w .sign) (w .size) q (r .n) (w .value) (w .val) (r .val) in
-    let v = r .val in
+    let z = times x (ofInt binary32 i) f (below-zero i) (natAbs i) q (r .n) v w (r .val) in
+    let y = r .val in
     let e = div-add-mod' (r .n) (den x) in
     let m = mod-lt (r .n) d in
-    subst (λ (t : ℤ). Between zero32 (sub binary32 x (ofInt binary32 t)) one32) (floor-is x b r) (near-in x (ofInt binary32 (subℕ q 8388608)) (w .sign) (w .size) f (w .value) (omega arith, omega arith))
+    subst (λ (t : ℤ). Between zero32 (sub binary32 x (ofInt binary32 t)) one32) (floor-is x b r) (near-in x (ofInt binary32 i) (below-zero i) (natAbs i) f v (omega arith, omega arith))
   where
     small : (n d : ℕ) → 0 < d → n ≤ 16777216 * d → n / d ≤ 16777217
     small n d D h = le-of-suc-le-suc (div-lt-iff-lt-mul D .1 (omega arith))

@@ -3,16 +3,16 @@
 use mathlib.Core.Path.{_≡_, refl, sym, ap, _∙_, subst}
 use mathlib.Core.Bool.{Bool, true, false, cond}
 use Prim.Native.Nat.{ℕ, zero, suc, _+_, _-_, _*_, _/_, _^_, _≤_, _<_}
-use native.Mathlib.Nat.{zero-lt-suc, mul-one, mul-pos, mul-assoc, mul-right-comm, add-mul, mul-le-mul-right, mul-lt-mul-of-pos-right, mul-div-cancel, le-trans}
+use native.Mathlib.Nat.{zero-lt-suc, mul-one, mul-pos, mul-assoc, mul-right-comm, add-mul, mul-le-mul-right, mul-lt-mul-of-pos-right, mul-div-cancel}
 use native.Mathlib.Omega.{arith}
 use lib.IntN.{ℤ, pos, negsuc, negℤ, natAbs, _+ℤ_}
 use lib.Dec.{T, ltb}
 use lib.Arith.{digits-div}
-use lib.Ieee.{Float, nan, inf, fin, Format, binary32, binary64, prec, up, down, round, sum, add, ofInt, fits}
+use lib.Ieee.{Float, nan, inf, fin, Format, binary32, binary64, prec, up, down, round, sum, neg, add, sub, ofInt, fits}
 use lib.Ieee.Fits.{down-pos, add-fits, ofInt-fits, fits-widens}
 use lib.Ieee.Exact.{HasValue}
 use lib.Ieee.Back.{round-whole, whole-unique}
-use lib.Ieee.Scale.{round-same}
+use lib.Ieee.Scale.{finite, round-same}
 use borrow.Author.Tests.{lt-ltb, le-ltb, ltb-true, ltb-false}
 use Rattle.rules.specs.Whole.{floorOf}
 
@@ -32,6 +32,11 @@ int-is f (negsuc n) h = round-whole f true (suc n) h
 
 pub is-int : (f : Format) (x : Float) (z : ℤ) → T (fits f x) → natAbs z ≤ 2 ^ prec f → IsInt x z → x ≡ ofInt f z
 is-int f x z t h v = whole-unique f x (ofInt f z) (below-zero z) (natAbs z) t (ofInt-fits f z) v (int-is f z h)
+
+pub value-finite : (x : Float) (s : Bool) (n : ℕ) → HasValue x s n 1 → T (finite x)
+value-finite nan s n v = v
+value-finite (inf t) s n v = v
+value-finite (fin t m e) s n v = tt
 
 -- a fraction that is a whole number, rounded
 pub as-whole : (f : Format) (s : Bool) (A D n : ℕ) → 0 < D → A ≡ n * D → n ≤ 2 ^ prec f → HasValue (round f s A D) s n 1
@@ -60,9 +65,9 @@ module _ (f : Format) (C : ℕ) (D : 0 < C) where
   difference : (s : Bool) (a b n : ℕ) → b ≤ a → a - b ≡ n → n ≤ 2 ^ prec f → HasValue (round f s (a * C - b * C) C) s n 1
   difference s a b n h e l = as-whole f s (a * C - b * C) C n D (minus a b C h ∙ ap (λ (z : ℕ). z * C) e) l
 
-  up-down : (a b : ℕ) → a + suc b ≤ 2 ^ prec f → IsInt (sum f false (a * C) true (suc b * C) C) (pos a +ℤ negsuc b)
+  up-down : (a b : ℕ) → a ≤ 2 ^ prec f → suc b ≤ 2 ^ prec f → IsInt (sum f false (a * C) true (suc b * C) C) (pos a +ℤ negsuc b)
   unfolding sum
-  up-down a b h = go (ltb a (suc b)) refl
+  up-down a b A B = go (ltb a (suc b)) refl
     where
       go : (t : Bool) → ltb a (suc b) ≡ t
           → IsInt (cond (ltb (a * C) (suc b * C)) (round f true (suc b * C - a * C) C) (round f false (a * C - suc b * C) C)) (cond t (negsuc (suc b - suc a)) (pos (a - suc b)))
@@ -73,9 +78,9 @@ module _ (f : Format) (C : ℕ) (D : 0 < C) where
           let l = ltb-false a (suc b) e in
           rw (le-ltb (a * C) (suc b * C) (mul-le-mul-right C l)) (difference false a (suc b) (a - suc b) l refl (omega arith))
 
-  down-up : (a b : ℕ) → suc a + b ≤ 2 ^ prec f → IsInt (sum f true (suc a * C) false (b * C) C) (negsuc a +ℤ pos b)
+  down-up : (a b : ℕ) → suc a ≤ 2 ^ prec f → b ≤ 2 ^ prec f → IsInt (sum f true (suc a * C) false (b * C) C) (negsuc a +ℤ pos b)
   unfolding sum
-  down-up a b h = go (ltb b (suc a)) refl
+  down-up a b A B = go (ltb b (suc a)) refl
     where
       equal : (t : Bool) → ltb (suc a) b ≡ t → suc a ≤ b
           → IsInt (cond (ltb (suc a * C) (b * C)) (round f false (b * C - suc a * C) C) (round f (ltb (b * C) (suc a * C)) (suc a * C - b * C) C)) (pos (b - suc a))
@@ -94,34 +99,21 @@ module _ (f : Format) (C : ℕ) (D : 0 < C) where
           (difference true (suc a) b (suc (suc a - suc b)) (omega arith) (omega arith) (omega arith))
       go false e = equal (ltb (suc a) b) refl (ltb-false b (suc a) e)
 
-  sum-ints : (a b : ℤ) → natAbs a + natAbs b ≤ 2 ^ prec f → IsInt (sum f (below-zero a) (natAbs a * C) (below-zero b) (natAbs b * C) C) (a +ℤ b)
-  sum-ints (pos a) (pos b) h = unfold sum in as-whole f false (a * C + b * C) C (a + b) D (sym (add-mul a b C)) h
-  sum-ints (pos a) (negsuc b) h = up-down a b h
-  sum-ints (negsuc a) (pos b) h = down-up a b h
-  sum-ints (negsuc a) (negsuc b) h =
-      unfold sum in as-whole f true (suc a * C + suc b * C) C (suc (suc (a + b))) D (sym (add-mul (suc a) (suc b) C) ∙ ap (λ (z : ℕ). z * C) (both a b)) (omega arith)
+  sum-ints : (a b : ℤ) → natAbs a ≤ 2 ^ prec f → natAbs b ≤ 2 ^ prec f → natAbs (a +ℤ b) ≤ 2 ^ prec f
+      → IsInt (sum f (below-zero a) (natAbs a * C) (below-zero b) (natAbs b * C) C) (a +ℤ b)
+  sum-ints (pos a) (pos b) A B h = unfold sum in as-whole f false (a * C + b * C) C (a + b) D (sym (add-mul a b C)) h
+  sum-ints (pos a) (negsuc b) A B h = up-down a b A B
+  sum-ints (negsuc a) (pos b) A B h = down-up a b A B
+  sum-ints (negsuc a) (negsuc b) A B h =
+      unfold sum in as-whole f true (suc a * C + suc b * C) C (suc (suc (a + b))) D (sym (add-mul (suc a) (suc b) C) ∙ ap (λ (z : ℕ). z * C) (both a b)) h
     where
       both : (a b : ℕ) → suc a + suc b ≡ suc (suc (a + b))
       both a b = omega arith
 
--- the sum is no further from 0 than both together
-pub sum-near : (a b : ℤ) → natAbs (a +ℤ b) ≤ natAbs a + natAbs b
-sum-near (pos a) (pos b) = omega arith
-sum-near (negsuc a) (negsuc b) = omega arith
-sum-near (pos a) (negsuc b) = go (ltb a (suc b)) refl
-  where
-    go : (t : Bool) → ltb a (suc b) ≡ t → natAbs (cond t (negsuc (suc b - suc a)) (pos (a - suc b))) ≤ a + suc b
-    go true e = omega arith
-    go false e = omega arith
-sum-near (negsuc a) (pos b) = go (ltb b (suc a)) refl
-  where
-    go : (t : Bool) → ltb b (suc a) ≡ t → natAbs (cond t (negsuc (suc a - suc b)) (pos (b - suc a))) ≤ suc a + b
-    go true e = omega arith
-    go false e = omega arith
-
-pub add-int : (f : Format) (x y : Float) (a b : ℤ) → IsInt x a → IsInt y b → natAbs a + natAbs b ≤ 2 ^ prec f → add f x y ≡ ofInt f (a +ℤ b)
+pub add-int : (f : Format) (x y : Float) (a b : ℤ) → IsInt x a → IsInt y b → natAbs a ≤ 2 ^ prec f → natAbs b ≤ 2 ^ prec f → natAbs (a +ℤ b) ≤ 2 ^ prec f
+    → add f x y ≡ ofInt f (a +ℤ b)
 unfolding add
-add-int f x y a b v w h = is-int f (add f x y) (a +ℤ b) (add-fits f x y) (le-trans (sum-near a b) h) (go x y v w)
+add-int f x y a b v w A B h = is-int f (add f x y) (a +ℤ b) (add-fits f x y) h (go x y v w)
   where
     go : (x y : Float) → IsInt x a → IsInt y b → IsInt (add f x y) (a +ℤ b)
     go nan y v w = absurd v
@@ -130,7 +122,19 @@ add-int f x y a b v w h = is-int f (add f x y) (a +ℤ b) (add-fits f x y) (le-t
     go (fin s m e) (inf t) v w = absurd w
     go (fin s m e) (fin t k d) v w =
         rw (v .0, w .0, left (natAbs a) (m * up e) (down e) (down d) (v .1), right (natAbs b) (k * up d) (down e) (down d) (w .1))
-        (sum-ints f (down e * down d) (mul-pos (down-pos e) (down-pos d)) a b h)
+        (sum-ints f (down e * down d) (mul-pos (down-pos e) (down-pos d)) a b A B h)
+
+-- a difference from a whole number above zero
+pub sub-int : (f : Format) (x y : Float) (a : ℤ) (n : ℕ) → IsInt x a → HasValue y false (suc n) 1 → natAbs a ≤ 2 ^ prec f → suc n ≤ 2 ^ prec f → natAbs (a +ℤ negsuc n) ≤ 2 ^ prec f
+    → sub f x y ≡ ofInt f (a +ℤ negsuc n)
+unfolding sub
+sub-int f x y a n v w A B h = add-int f x (neg y) a (negsuc n) v (turned y w) A B h
+  where
+    turned : (y : Float) → HasValue y false (suc n) 1 → IsInt (neg y) (negsuc n)
+    turned nan w = absurd w
+    turned (inf s) w = absurd w
+    turned (fin true m e) w = absurd (subst T (w .0) tt)
+    turned (fin false m e) w = unfold neg in (refl, w .1)
 
 -- ---- the float of an integer in both formats, and its floor
 pub narrow : (z : ℤ) → natAbs z ≤ 2 ^ 24 → ofInt binary64 z ≡ ofInt binary32 z
