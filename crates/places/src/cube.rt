@@ -12,7 +12,7 @@ pub fn cube_texel(u: f32, width: usize) -> usize
     requires { ⌜ Between zero32 u one32 × (1 ≤ width) × (width ≤ 4096) ⌝ }
     ensures { λ r. ⌜ (r ≡ cubeTexel u width) × (r < width) ⌝ }
 {
-    texel::whole::round_even(u * ((width - 1) as u32 as f32))
+    texel::whole::round_even(u * ((width - 1) as u32 as f32)) as usize
 }
 
 // A fractional level held to 0..top.

@@ -1,5 +1,5 @@
--- The whole number nearest to a value from 0 to 2^12, a half to the even neighbour, by one f64 sum: 2^52 + p lies where the last place is 1,
--- and the sum is rounded once, a tie to the even one; 2^52 is even. Assumes nothing.
+-- The whole number nearest to a value from 0 to 2^12, a half to the even neighbour, by one f32 sum: 2^23 + p lies where the last place is 1,
+-- and the sum is rounded once, a tie to the even one; 2^23 is even. Assumes nothing.
 use mathlib.Core.Path.{_≡_, refl, sym, ap, _∙_, subst}
 use mathlib.Core.Bool.{true, false, not, cond}
 use Prim.Native.Nat.{ℕ, _+_, _*_, _/_, _%_, _^_, _≤_, _<_, compare, Ordering, Ordering·lt, Ordering·eq, Ordering·gt, zero-le}
@@ -9,7 +9,7 @@ use lib.IntN.{pos}
 use lib.Dec.{T, isLe, isEq, ltb, eqb, leb→le, nleb→lt, eqb→eq, eqb-refl, lit<}
 use lib.Arith.{lt-of-le-ne}
 use borrow.Author.Tests.{lt-ltb, le-ltb}
-use lib.Ieee.{Float, nan, inf, fin, binary64, up, down, nearest, add, toBits, ofBits, isNan}
+use lib.Ieee.{Float, nan, inf, fin, binary32, up, down, nearest, add, toBits, ofBits, isNan}
 use lib.Ieee.Fits.{down-pos, nearest-le}
 use lib.Ieee.Nearest.{closest, closest-same}
 use lib.Ieee.Scale.{finite}
@@ -92,29 +92,29 @@ module _ (p : Float) (b : Between zero32 p high12) where
   finite-p = Between-finite zero32 p high12 tt tt b
 
   -- the sum as a fraction, and the whole number nearest to it
-  sum : Moved binary64 p (fin false 1 (pos 52)) (2 ^ 52)
-  sum = let k = fraction p finite-p b in let d = den-pos p in moved binary64 p 1 52 finite-p (omega arith)
+  sum : Moved binary32 p (fin false 1 (pos 23)) (2 ^ 23)
+  sum = let k = fraction p finite-p b in let d = den-pos p in moved binary32 p 1 23 finite-p (omega arith)
 
-  size-is : sum .size * 2 ^ 0 ≡ num p + 2 ^ 52 * den p
+  size-is : sum .size * 2 ^ 0 ≡ num p + 2 ^ 23 * den p
   size-is = let k = no-sign p finite-p (b .low) in let x = k .0 in let y = k .1 in let z = sum .val in omega arith
 
-  whole : closest (sum .size * 2 ^ 0) (den p) ≡ evenOf p + 2 ^ 52
-  whole = ap (λ (n : ℕ). closest n (den p)) size-is ∙ closest-more (num p) (den p) (2 ^ 52) (den-pos p) refl ∙ ap (λ (n : ℕ). n + 2 ^ 52) (even-is p finite-p b)
+  whole : closest (sum .size * 2 ^ 0) (den p) ≡ evenOf p + 2 ^ 23
+  whole = ap (λ (n : ℕ). closest n (den p)) size-is ∙ closest-more (num p) (den p) (2 ^ 23) (den-pos p) refl ∙ ap (λ (n : ℕ). n + 2 ^ 23) (even-is p finite-p b)
 
   small : evenOf p ≤ 4097
   small = subst (λ (n : ℕ). n ≤ 4097) (even-is p finite-p b) (few p finite-p b)
 
-  least : 2 ^ 52 * den p ≤ sum .size * 2 ^ 0
+  least : 2 ^ 23 * den p ≤ sum .size * 2 ^ 0
   least = let k = size-is in omega arith
 
-  most : closest (sum .size * 2 ^ 0) (den p) < 2 ^ 53
+  most : closest (sum .size * 2 ^ 0) (den p) < 2 ^ 24
   most = let k = whole in let l = small in omega arith
 
-  pub even-bits : toBits binary64 (add binary64 p (fin false 1 (pos 52))) % 2 ^ 52 ≡ evenOf p
+  pub even-bits : toBits binary32 (add binary32 p (fin false 1 (pos 23))) % 2 ^ 23 ≡ evenOf p
   even-bits =
       let k = whole in
       let l = small in
-      ap (λ (y : Float). toBits binary64 y % 2 ^ 52) (sum .is) ∙ ap (λ (n : ℕ). n % 2 ^ 52) (rounded-bits binary64 (sum .size) (den p) 0 (den-pos p) zero-le least most) ∙ omega arith
+      ap (λ (y : Float). toBits binary32 y % 2 ^ 23) (sum .is) ∙ ap (λ (n : ℕ). n % 2 ^ 23) (rounded-bits binary32 (sum .size) (den p) 0 (den-pos p) zero-le least most) ∙ omega arith
 
-  pub even-no-nan : T (not (isNan (add binary64 p (fin false 1 (pos 52)))))
-  even-no-nan = no-nan _ (subst (λ (y : Float). T (finite y)) (sym (sum .is)) (rounded-finite binary64 (sum .size) (den p) 0 (den-pos p) zero-le least most))
+  pub even-no-nan : T (not (isNan (add binary32 p (fin false 1 (pos 23)))))
+  even-no-nan = no-nan _ (subst (λ (y : Float). T (finite y)) (sym (sum .is)) (rounded-finite binary32 (sum .size) (den p) 0 (den-pos p) zero-le least most))

@@ -29,12 +29,12 @@ pub fn floor_near(x: f32) -> f32
     if x < near { near - 1.0 } else { near }
 }
 
-// The nearest whole number, a half to the even neighbour, for a p from 0 to 2^12. The f64 sum p + 2^52 is rounded so, and has it in its low
-// 52 bits.
-pub fn round_even(p: f32) -> usize
+// The nearest whole number, a half to the even neighbour, for a p from 0 to 2^12. The sum p + 2^23 is rounded so, and has it in its low 23
+// bits.
+pub fn round_even(p: f32) -> u32
     requires { ⌜ Between zero32 p high12 ⌝ }
     ensures { λ r. ⌜ r ≡ evenOf p ⌝ }
 {
-    let y = (p as f64) + 4503599627370496.0;
-    (f64::to_bits(y) % 4503599627370496) as usize
+    let y = p + 8388608.0;
+    f32::to_bits(y) % 8388608
 }

@@ -19,6 +19,9 @@ int-to-float-round-even c = side-float _ (let p = c .before .pre in omega arith)
 round-even-requires : tie.Need-round-even-requires
 round-even-requires c κs = across-top (c .before .args .u) (c .before .args .width - 1) (c .before .pre .0) (omega arith)
 
+cast-result : tie.Need-cast-result
+cast-result c = search needs
+
 returns : tie.Need-returns
 unfolding cubeTexel
 returns c =
@@ -29,4 +32,4 @@ returns c =
 pub cube-texel-spec : {M : Type 1} → statement M
 cube-texel-spec =
     tie.close (tie.spec sub-round-even cast-round-even
-    int-to-float-round-even round-even-requires returns)
+    int-to-float-round-even round-even-requires cast-result returns)
