@@ -1,5 +1,5 @@
--- The greatest power of 4 up to a footprint, in the paper's words, and as half of the footprint's exponent: 4^j is at most f
--- exactly where 2j is at most the exponent that f's bit pattern holds, since both say 2^(2j + 149) ≤ f in units of 2^-149.
+-- The greatest power of 4 up to a footprint, in the paper's words, and as half of the exponent of max(footprint, 1): 4^j is at most an
+-- f from 1 up exactly where 2j is at most the exponent that f's bit pattern holds, since both say 2^(2j + 149) ≤ f in units of 2^-149.
 -- Assumes nothing.
 use mathlib.Core.Path.{_≡_, refl, sym, ap, _∙_, subst}
 use mathlib.Core.Logic.{_⊎_, inl, inr}
@@ -8,7 +8,7 @@ use Prim.Native.Nat.{ℕ, zero, suc, _+_, _-_, _*_, _/_, _^_, _≤_, _<_, min, m
 use native.Mathlib.Nat.{le-trans, le-of-lt, le-of-eq, lt-of-lt-of-le, lt-of-le-of-lt, lt-of-not-le, lt-irrefl, zero-lt-suc, mul-one, mul-right-comm, mul-le-mul-right, le-of-mul-le-mul-right, le-of-suc-le-suc, le-suc, eq-or-lt-of-le, pow-suc, pow-le-pow-right, le-div-iff-mul-le, div-lt-iff-lt-mul}
 use native.Mathlib.Omega.{arith}
 use lib.IntN.{ℤ, pos}
-use lib.Dec.{T, leb, ltb, eqb, leb→le, le→leb, ltb→lt, eqb→eq, lit≤}
+use lib.Dec.{T, leb, ltb, eqb, leb→le, le→leb, ltb→lt, lt→ltb, eqb→eq, lit≤}
 use lib.Pow.{pow-pos, pow-mono, pow-add}
 use lib.Ieee.{Float, nan, inf, fin, binary32, up, down, lt, eq, le, ofInt, ofBits, toBits, isNan, size}
 use lib.Ieee.Fits.{down-pos, and-l}
@@ -17,16 +17,13 @@ use lib.Ieee.Back.{round-whole}
 use lib.Ieee.Order.{le-of-values}
 use lib.Ieee.Digits.{size-lt, size-reaches}
 use borrow.Author.Tests.{le-leb, lt-leb, leb-true, leb-false}
-use Rattle.rules.specs.Floats.{float, four32}
+use Rattle.rules.specs.Floats.{float, one32}
 use Rattle.rules.specs.Footprint.{fourOf}
 use Rattle.rules.specs.Sizes.{log2, top}
 use Rattle.rules.proofs.Sides.{log2-bounds, exp-le}
 use Rattle.places.proofs.Magnitudes.{same-test}
+use Rattle.places.proofs.Taken.{or-l, or-split}
 use Rattle.places.proofs.Wholes.{only-zero}
-
-or-split : (a b : Bool) → T (a || b) → T a ⊎ T b
-or-split true b t = inl tt
-or-split false b t = inr t
 
 -- ---- a whole number a beside a float
 whole : (a : ℕ) → a ≤ 16777216 → HasValue (float a) false a 1
@@ -52,21 +49,24 @@ whole-le a (fin false k d) m e v =
         (subst (λ (z : ℕ). z ≤ A * D) (ap (λ (z : ℕ). z * E) (sym (mul-one K) ∙ v) ∙ mul-right-comm a D E) l)
         h
 
--- what is at least a whole number is at least a smaller one
-pub at-least : (a b : ℕ) (x y f : Float) → 0 < b → b ≤ a → HasValue x false a 1 → HasValue y false b 1 → T (le x f) → T (le y f)
-at-least a b nan y f h l v w t = absurd v
-at-least a b (inf s) y f h l v w t = absurd v
-at-least a b (fin true k d) y f h l v w t = absurd (subst T (v .0) tt)
-at-least a b (fin false k d) nan f h l v w t = absurd w
-at-least a b (fin false k d) (inf s) f h l v w t = absurd w
-at-least a b (fin false k d) (fin true n c) f h l v w t = absurd (subst T (w .0) tt)
-at-least a b (fin false k d) (fin false n c) nan h l v w t = unfold le lt eq in t
-at-least a b (fin false k d) (fin false n c) (inf true) h l v w t = unfold le lt eq in t
-at-least a b (fin false k d) (fin false n c) (inf false) h l v w t = unfold le lt eq in tt
-at-least a b (fin false k d) (fin false n c) (fin true m e) h l v w t = absurd (lt-irrefl 0 (subst (λ (n : ℕ). 0 < n) (only-zero m e (fin false k d) a 1 (zero-lt-suc 0) v t .0) (lt-of-lt-of-le h l)))
-at-least a b (fin false k d) (fin false n c) (fin false m e) h l v w t =
-    let A = leb→le (a * down e) (m * up e) (subst T (whole-le a (fin false k d) m e v) t) in
-    subst T (sym (whole-le b (fin false n c) m e w)) (le→leb (b * down e) (m * up e) (le-trans (mul-le-mul-right (down e) l) A))
+-- what is at least a whole number from 2 up is above 1
+above-one : (a : ℕ) (x f : Float) → 2 ≤ a → HasValue x false a 1 → T (le x f) → T (lt one32 f)
+unfolding lt ofBits
+above-one a nan f h v t = absurd v
+above-one a (inf s) f h v t = absurd v
+above-one a (fin true k d) f h v t = absurd (subst T (v .0) tt)
+above-one a (fin false k d) nan h v t = unfold le eq in t
+above-one a (fin false k d) (inf true) h v t = unfold le eq in t
+above-one a (fin false k d) (inf false) h v t = tt
+above-one a (fin false k d) (fin true m e) h v t = let z = only-zero m e (fin false k d) a 1 (zero-lt-suc 0) v t .0 in absurd (none z)
+  where
+    none : a ≡ 0 → ⊥
+    none z = omega arith
+above-one a (fin false k d) (fin false m e) h v t =
+    lt→ltb (1 * down e) (m * up e * 1) (more (m * up e) (down e) (down-pos e) (leb→le (a * down e) (m * up e) (subst T (whole-le a (fin false k d) m e v) t)))
+  where
+    more : (A D : ℕ) → 0 < D → a * D ≤ A → 1 * D < A * 1
+    more A D l u = let k : 2 * D ≤ a * D = mul-le-mul-right D h in omega arith
 
 -- ---- powers of 4
 pub four-two : (j : ℕ) → 4 ^ j ≡ 2 ^ (2 * j)
@@ -120,13 +120,13 @@ units i A D h =
     move : (i D : ℕ) → 2 ^ i * D * 2 ^ 149 ≡ 2 ^ (i + 149) * D
     move i D = mul-right-comm (2 ^ i) D (2 ^ 149) ∙ ap (λ (z : ℕ). z * D) (sym (pow-add 2 i 149))
 
--- what the pattern of an f from 4 up says of the powers of 4
+-- what the pattern of an f from 1 up says of the powers of 4
 pub record Exponent (f : Float) (x : ℕ) : Type 0 where
   pub least : 127 ≤ x
   pub test : (j : ℕ) → j ≤ 12 → le (float (4 ^ j)) f ≡ leb (2 * j + 127) x
 
-by-size : (n x : ℕ) → x + 23 ≡ size n → T (leb (2 ^ 151) n) → 127 ≤ x
-by-size n x e t = let l = leb→le 152 (size n) (subst T (reaches 151 n) t) in omega arith
+by-size : (n x : ℕ) → x + 23 ≡ size n → T (leb (2 ^ 149) n) → 127 ≤ x
+by-size n x e t = let l = leb→le 150 (size n) (subst T (reaches 149 n) t) in omega arith
 
 by-digits : (i n x : ℕ) → x + 23 ≡ size n → leb (2 ^ (i + 149)) n ≡ leb (i + 127) x
 by-digits i n x e =
@@ -135,13 +135,13 @@ by-digits i n x e =
     (λ t. le→leb (i + 127) x (let l = leb→le (suc (i + 149)) (size n) t in omega arith))
     (λ t. le→leb (suc (i + 149)) (size n) (let l = leb→le (i + 127) x t in omega arith))
 
-exponent-fin : (m : ℕ) (e : ℤ) → T (le four32 (fin false m e)) → Exponent (fin false m e) (toBits binary32 (fin false m e) / 8388608)
+exponent-fin : (m : ℕ) (e : ℤ) → T (le one32 (fin false m e)) → Exponent (fin false m e) (toBits binary32 (fin false m e) / 8388608)
 unfolding toBits ofBits
 exponent-fin m e t =
     let n = m * up e * 2 ^ 149 / down e in
     let x = (0 + (size n - 24) * 8388608 + n / 2 ^ (size n - 24)) / 8388608 in
-    let big : T (leb (2 ^ 151) n) = subst T (whole-le 4 (fin false 1 (pos 2)) m e (refl, refl) ∙ units 2 (m * up e) (down e) (down-pos e)) t in
-    let s : x + 23 ≡ size n = field n (le-trans (pow-mono {i = 23} {j = 151} (lit≤ tt)) (leb→le (2 ^ 151) n big)) in
+    let big : T (leb (2 ^ 149) n) = subst T (whole-le 1 (fin false 1 (pos 0)) m e (refl, refl) ∙ units 0 (m * up e) (down e) (down-pos e)) t in
+    let s : x + 23 ≡ size n = field n (le-trans (pow-mono {i = 23} {j = 149} (lit≤ tt)) (leb→le (2 ^ 149) n big)) in
     record {
       least = by-size n x s big;
       test = λ j h.
@@ -157,20 +157,20 @@ below-inf a nan v = absurd v
 below-inf a (inf s) v = absurd v
 below-inf a (fin s k d) v = refl
 
-pub exponent : (f : Float) → T (le four32 f) → Exponent f (toBits binary32 f / 8388608)
+exponent : (f : Float) → T (le one32 f) → Exponent f (toBits binary32 f / 8388608)
 exponent nan t = absurd (unfold le lt eq ofBits in t)
 exponent (inf true) t = absurd (unfold le lt eq ofBits in t)
 exponent (inf false) t = unfold toBits in record { least = lit≤ tt; test = λ j h. below-inf (4 ^ j) (float (4 ^ j)) (power j h) ∙ sym (all j h) }
   where
     all : (j : ℕ) → j ≤ 12 → leb (2 * j + 127) 255 ≡ true
     all j h = le-leb (2 * j + 127) 255 (omega arith)
-exponent (fin true m e) t = absurd (four-some (only-zero m e (fin false 1 (pos 2)) 4 1 (zero-lt-suc 0) (refl, refl) (unfold ofBits in t) .0))
+exponent (fin true m e) t = absurd (some (only-zero m e (fin false 1 (pos 0)) 1 1 (zero-lt-suc 0) (refl, refl) (unfold ofBits in t) .0))
   where
-    four-some : _≡_ {A = ℕ} 4 0 → ⊥
-    four-some e = omega arith
+    some : _≡_ {A = ℕ} 1 0 → ⊥
+    some e = omega arith
 exponent (fin false m e) t = exponent-fin m e t
 
-pub no-nan : (f : Float) → T (le four32 f) → T (not (isNan f))
+no-nan : (f : Float) → T (le one32 f) → T (not (isNan f))
 unfolding isNan
 no-nan nan t = absurd (unfold le lt eq ofBits in t)
 no-nan (inf s) t = tt
@@ -189,7 +189,7 @@ four-by (suc n) h f l k =
     go false e r = let m = leb-false (suc n) h e in rw (← r) (omega arith)
 
 -- half of the exponent
-pub four-half : (n : ℕ) (f : Float) (x : ℕ) → n ≤ 12 → Exponent f x → min ((x - 127) / 2) n ≡ fourOf n f
+four-half : (n : ℕ) (f : Float) (x : ℕ) → n ≤ 12 → Exponent f x → min ((x - 127) / 2) n ≡ fourOf n f
 four-half n f x h k = four-by n ((x - 127) / 2) f h (λ j a b. k .test j b ∙ half j (k .least))
   where
     half : (j : ℕ) → 127 ≤ x → leb (2 * j + 127) x ≡ leb j ((x - 127) / 2)
@@ -198,18 +198,42 @@ four-half n f x h k = four-by n ((x - 127) / 2) f h (λ j a b. k .test j b ∙ h
         (λ t. le→leb j ((x - 127) / 2) (let l = leb→le (2 * j + 127) x t in omega arith))
         (λ t. le→leb (2 * j + 127) x (let l = leb→le j ((x - 127) / 2) t in omega arith))
 
--- below 4 the level is 0
-pub four-none : (n : ℕ) (f : Float) → n ≤ 12 → le four32 f ≡ false → fourOf n f ≡ 0
+-- where the footprint is not above 1 the level is 0
+four-none : (n : ℕ) (f : Float) → n ≤ 12 → lt one32 f ≡ false → fourOf n f ≡ 0
 four-none n f h e = sym (four-by n 0 f h (λ j a b. no j a b ∙ sym (lt-leb j 0 a))) ∙ none n
   where
     no : (j : ℕ) → 1 ≤ j → j ≤ 12 → le (float (4 ^ j)) f ≡ false
     no j a b =
         same-test (le (float (4 ^ j)) f) false
-        (λ t. subst T e (at-least (4 ^ j) 4 (float (4 ^ j)) four32 f (zero-lt-suc 3) (four-le 1 j a) (power j b) (unfold ofBits in (refl, refl)) t))
+        (λ t. subst T e (above-one (4 ^ j) (float (4 ^ j)) f (le-trans (lit≤ tt) (four-le 1 j a)) (power j b) t))
         (λ t. absurd t)
 
     none : (n : ℕ) → min 0 n ≡ 0
     none n = omega arith
+
+-- ---- max(f, 1) is at least 1, so no NaN, and has the level of f
+abbrev pub held : Float → Float
+held f = cond (lt one32 f) f one32
+
+held-least : (f : Float) → T (le one32 (held f))
+held-least f = go (lt one32 f) refl
+  where
+    go : (b : Bool) → lt one32 f ≡ b → T (le one32 (cond b f one32))
+    go true e = unfold le in or-l (lt one32 f) (eq one32 f) (subst T (sym e) tt)
+    go false e = unfold le lt eq ofBits in tt
+
+pub held-no-nan : (f : Float) → T (not (isNan (held f)))
+held-no-nan f = no-nan (held f) (held-least f)
+
+pub held-exponent : (f : Float) → Exponent (held f) (toBits binary32 (held f) / 8388608)
+held-exponent f = exponent (held f) (held-least f)
+
+pub four-held : (n : ℕ) (f : Float) → n ≤ 12 → min ((toBits binary32 (held f) / 8388608 - 127) / 2) n ≡ fourOf n f
+four-held n f h = four-half n (held f) _ h (held-exponent f) ∙ same (lt one32 f) refl
+  where
+    same : (b : Bool) → lt one32 f ≡ b → fourOf n (cond b f one32) ≡ fourOf n f
+    same true e = refl
+    same false e = four-none n one32 h (unfold lt ofBits in refl) ∙ sym (four-none n f h e)
 
 -- ---- the rule in the paper's words: the level's power is at most the footprint, and no level with that is greater
 pub four-fits : (n : ℕ) (f : Float) → (fourOf n f ≡ 0) ⊎ T (le (float (4 ^ fourOf n f)) f)

@@ -1,8 +1,9 @@
 // The footprint of four steps, and the level that it asks for.
+use crate::choice::pick;
 use crate::choice::smaller;
 use rules::Lanes;
 ghost use mathlib.Core.Path.{_≡_};
-ghost use Prim.Native.Nat.{_≤_, _<_};
+ghost use Prim.Native.Nat.{_≤_};
 ghost use lib.Ieee.Scale.{finite};
 ghost use Rattle.rules.specs.Sizes.{top as topOf};
 ghost use Rattle.rules.specs.Footprint.{footprintOf, fourOf, mipLevelOf};
@@ -28,15 +29,13 @@ pub fn footprint(width: u32, height: u32, steps: Lanes) -> f32
     ((x * x + z * z) + (y * y + w * w)) * 0.5
 }
 
-// The greatest m up to top with 4^m at most max(footprint, 1): half of the footprint's exponent.
+// The greatest m up to top with 4^m at most max(footprint, 1): half of the exponent of that maximum, which is 1 for a NaN.
 fn greatest_four(footprint: f32, top: u32) -> u32
     requires { ⌜ top ≤ 12 ⌝ }
     ensures { λ r. ⌜ r ≡ fourOf top footprint ⌝ }
 {
-    if footprint >= 4.0 {
-        return smaller((f32::to_bits(footprint) / 8388608 - 127) / 2, top);
-    }
-    0
+    let held = pick(1.0 < footprint, footprint, 1.0);
+    smaller((f32::to_bits(held) / 8388608 - 127) / 2, top)
 }
 
 // The greatest m with 4^m at most max(footprint, 1), lowered to the top level.
