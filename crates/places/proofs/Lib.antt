@@ -1,6 +1,5 @@
 pub mod Rests
 pub mod Wholes
-pub mod Lifts
 pub mod Finites
 pub mod Magnitudes
 pub mod Fours
@@ -9,7 +8,7 @@ pub mod Spans
 pub mod Pairs
 pub mod Taken
 pub mod Spots
-pub mod Standing
 pub mod Weighing
 pub mod SourceWraps
+pub mod Wraps
 pub mod SourceLevels

@@ -1,28 +1,28 @@
 -- The two levels of a trilinear lookup. A finite fractional level held to 0..top lies there as a float, since top is one as it is;
 -- its floor l is a whole number up to top, and what is left over lies in 0 to 1. Assumes nothing.
-use mathlib.Core.Path.{_≡_, refl, sym, ap, _∙_, subst}
+use mathlib.Core.Path.{_≡_, refl, sym, ap, _∙_, subst, subst₂}
 use mathlib.Core.Logic.{inl, inr}
 use mathlib.Core.Bool.{Bool, true, false, cond}
 use Prim.Native.Nat.{ℕ, _+_, _*_, _/_, _≤_, min, zero-le}
 use native.Mathlib.Nat.{le-refl, zero-lt-suc, mul-le-mul-right}
 use native.Mathlib.Omega.{arith}
 use lib.IntN.{ℤ, pos, negℤ, natAbs}
-use lib.Signed.{nonNeg}
 use lib.Dec.{T}
-use lib.Ieee.{Float, nan, inf, fin, binary32, up, down, le, lt, sub, round, ofInt, ofBits, inFloat}
+use lib.Ieee.{Float, nan, inf, fin, binary32, up, down, le, lt, sub, round, ofInt, ofBits, toUnsigned, inUnsigned}
 use lib.Ieee.Fits.{down-pos}
 use lib.Ieee.Exact.{HasValue}
-use lib.Ieee.Back.{round-whole}
+use lib.Ieee.Back.{round-whole, unsigned-back}
 use lib.Ieee.Order.{round-mono}
 use lib.Ieee.Scale.{finite}
 use Rattle.rules.specs.Floats.{Between, zero32, one32, float}
 use Rattle.rules.specs.Whole.{floorOf}
 use Rattle.rules.specs.Cubemap.{holdOf, pairingOf}
-use Rattle.texel.specs.Ends.{low23, high23}
+use Rattle.texel.specs.Ends.{low12, high12}
 use Rattle.texel.proofs.Range.{le→, Between-finite, le-trans-finite}
 use Rattle.texel.proofs.Unit.{ends}
 use Rattle.texel.proofs.Total.{le-or-lt}
 use Rattle.texel.proofs.Coord.{side-float}
+use Rattle.texel.proofs.Floors.{near-in}
 use Rattle.texel.proofs.Fraction.{fraction-in}
 use Rattle.places.proofs.Wholes.{value-finite}
 use Rattle.places.proofs.Spans.{upper, up-le, down-le}
@@ -75,13 +75,13 @@ step-of (fin true m e) w top f v b =
     none : (k : ℕ) → k ≤ 0 → k ≡ 0
     none k h = omega arith
 
-top-below : (n : ℕ) → n ≤ 12 → T (le (float n) high23)
+top-below : (n : ℕ) → n ≤ 12 → T (le (float n) high12)
 unfolding ofInt
 top-below n h =
     subst (λ (z : Float). T (le (round binary32 false n 1) z)) (unfold round in refl)
-    (round-mono binary32 n 1 8388608 1 (zero-lt-suc 0) (zero-lt-suc 0) (mul-le-mul-right 1 (more n h)))
+    (round-mono binary32 n 1 4096 1 (zero-lt-suc 0) (zero-lt-suc 0) (mul-le-mul-right 1 (more n h)))
   where
-    more : (n : ℕ) → n ≤ 12 → n ≤ 8388608
+    more : (n : ℕ) → n ≤ 12 → n ≤ 4096
     more n h = omega arith
 
 module _ (x : Float) (top : ℕ) (p : T (finite x)) (h : top ≤ 12) where
@@ -99,37 +99,37 @@ module _ (x : Float) (top : ℕ) (p : T (finite x)) (h : top ≤ 12) where
   step : Step (holdOf x (float top)) top
   step = step-of (holdOf x (float top)) (float top) top held-finite value held-in
 
-  pub held-range : Between low23 (holdOf x (float top)) high23
+  pub held-range : Between low12 (holdOf x (float top)) high12
   unfolding ofBits
   held-range =
       let F = value-finite (float top) false top 1 value in
       record {
-        low = le-trans-finite low23 zero32 (holdOf x (float top)) tt tt held-finite (unfold le in tt) (held-in .low);
-        high = le-trans-finite (holdOf x (float top)) (float top) high23 held-finite F tt (held-in .high) (top-below top h);
+        low = le-trans-finite low12 zero32 (holdOf x (float top)) tt tt held-finite (unfold le in tt) (held-in .low);
+        high = le-trans-finite (holdOf x (float top)) (float top) high12 held-finite F tt (held-in .high) (top-below top h);
       }
 
 -- ---- what the code makes of the floor l
-pub record Known (x : Float) (top : ℕ) (l : ℤ) : Type 0 where
-  pub small : T (inFloat binary32 l)
-  pub above : T (nonNeg l)
-  pub most : natAbs l ≤ top
-  pub weight : Between zero32 (sub binary32 x (ofInt binary32 l)) one32
+pub record Known (x : Float) (top : ℕ) (l : Float) : Type 0 where
+  pub whole : T (inUnsigned binary32 32 l)
+  pub cut : toUnsigned 32 l ≡ natAbs (floorOf x)
+  pub most : natAbs (floorOf x) ≤ top
+  pub weight : Between zero32 (sub binary32 x l) one32
 
-pub known : (x h : Float) (top : ℕ) (l : ℤ) → T (finite x) → top ≤ 12 → h ≡ holdOf x (float top) → l ≡ floorOf h → Known h top l
-known x h top l p k e i =
-    subst (λ (z : Float). l ≡ floorOf z → Known z top l) (sym e)
-    (λ i.
-    let s = step x top p k in
-    subst (λ (z : ℤ). Known (holdOf x (float top)) top z) (sym (i ∙ s .is))
-    (record {
-      small = side-float (s .n) (let m = s .most in omega arith);
-      above = tt;
-      most = s .most;
-      weight = subst (λ (z : ℤ). Between zero32 (sub binary32 (holdOf x (float top)) (ofInt binary32 z)) one32) (s .is) (fraction-in (holdOf x (float top)) (held-range x top p k));
-    }))
-    i
+pub known : (x h : Float) (top : ℕ) (l : Float) → T (finite x) → top ≤ 12 → h ≡ holdOf x (float top) → l ≡ ofInt binary32 (floorOf h) → Known h top l
+known x h top l p k e i = subst₂ (λ (h l : Float). Known h top l) (sym e) (sym (i ∙ ap (λ (z : Float). ofInt binary32 (floorOf z)) e)) at-held
+  where
+    at-held : Known (holdOf x (float top)) top (ofInt binary32 (floorOf (holdOf x (float top))))
+    at-held =
+        let s = step x top p k in
+        let back = unsigned-back binary32 32 (s .n) (side-float (s .n) (let m = s .most in omega arith)) (let m = s .most in omega arith) in
+        record {
+          whole = rw (s .is) (back .0);
+          cut = rw (s .is) (back .1);
+          most = rw (s .is) (s .most);
+          weight = fraction-in (holdOf x (float top)) (near-in (holdOf x (float top)) (held-range x top p k));
+        }
 
-pub at-pairing : (x h : Float) (top : ℕ) (l : ℤ) (high : ℕ) → h ≡ holdOf x (float top) → l ≡ floorOf h → high ≡ min (natAbs l + 1) top
-    → record { low = natAbs l; high = high; part = sub binary32 h (ofInt binary32 l) } ≡ pairingOf x top
+pub at-pairing : (x h : Float) (top : ℕ) (l : Float) (low high : ℕ) → h ≡ holdOf x (float top) → l ≡ ofInt binary32 (floorOf h) → low ≡ natAbs (floorOf h) → high ≡ min (low + 1) top
+    → record { low = low; high = high; part = sub binary32 h l } ≡ pairingOf x top
 unfolding pairingOf
-at-pairing x h top l high e i j = rw (j, i, e)
+at-pairing x h top l low high e i k j = rw (j, k, i, e)

@@ -193,25 +193,25 @@ module _ (t : ℤ) (d : ℕ) (a : 1 ≤ d) (b : d ≤ 4096) (h : natAbs t ≤ 20
   mag-small : mag t ≤ 8388609
   mag-small = le-trans (mag-le t) (omega arith)
 
-  side : HasValue (float d) false d 1
+  pub side : HasValue (float d) false d 1
   unfolding ofInt
   side = round-whole binary32 false d (omega arith)
 
-  last : HasValue (sub binary32 (float d) one32) false (d - 1) 1
+  pub last : HasValue (sub binary32 (float d) one32) false (d - 1) 1
   unfolding ofBits
   last = sub-whole (float d) one32 d 1 side (refl, refl) a (omega arith)
 
-  two-sides : HasValue (mul binary32 (float d) two32) false (2 * d) 1
+  pub two-sides : HasValue (mul binary32 (float d) two32) false (2 * d) 1
   unfolding ofBits
   two-sides = subst (λ (n : ℕ). HasValue (mul binary32 (float d) two32) false n 1) (mul-comm d 2) (mul-whole (float d) two32 false d 2 side (refl, refl) (omega arith))
 
-  repeated : HasValue (restSource (ofInt binary32 t) (float d)) false (remainderOf t d) 1
+  pub repeated : HasValue (restSource (ofInt binary32 t) (float d)) false (remainderOf t d) 1
   repeated =
       let q = few-times d a 2049 (omega arith) in
       let m = mag-small in
       rest-value 4095 137 refl (lit≤ tt) d a b (float d) side t (omega arith) (omega arith)
 
-  turned : HasValue (restSource (ofInt binary32 t) (mul binary32 (float d) two32)) false (remainderOf t (2 * d)) 1
+  pub turned : HasValue (restSource (ofInt binary32 t) (mul binary32 (float d) two32)) false (remainderOf t (2 * d)) 1
   turned =
       let q = few-times (2 * d) (omega arith) 1025 (omega arith) in
       let m = mag-small in

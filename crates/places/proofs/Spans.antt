@@ -1,15 +1,14 @@
 -- The texel numbers of a coordinate. With n = 2048 * width, u * width lies in -n to n and u * width - 0.5 in -n - 1 to n, since
 -- these ends are floats as they are; so a floor t of them has |t| and |t + 1| up to n + 1, and the wrap takes both.
 -- Assumes nothing.
-use mathlib.Core.Path.{_≡_, refl, sym, subst}
+use mathlib.Core.Path.{_≡_, refl, sym, ap, _∙_, subst}
 use mathlib.Core.Bool.{true, false}
 use Prim.Native.Nat.{ℕ, zero, suc, _+_, _-_, _*_, _/_, _^_, _≤_, _<_, max, zero-le}
 use native.Mathlib.Nat.{le-of-suc-le-suc, mul-one, div-lt-iff-lt-mul}
 use native.Mathlib.Omega.{arith}
 use lib.IntN.{ℤ, pos, negsuc, negℤ, natAbs, sucℤ, _+ℤ_, +ℤ-one}
-use lib.Signed.{mag}
-use lib.Dec.{T, le→leb, lt→ltb}
-use lib.Ieee.{Float, nan, inf, fin, binary32, up, down, neg, sub, mul, le, ofInt, ofBits, inFloat}
+use lib.Dec.{T, lit≤}
+use lib.Ieee.{Float, nan, inf, fin, binary32, up, down, neg, add, sub, mul, le, ofInt, ofBits}
 use lib.Ieee.Fits.{down-pos}
 use lib.Ieee.Exact.{HasValue}
 use lib.Ieee.Back.{round-whole}
@@ -19,14 +18,13 @@ use Rattle.rules.specs.Floats.{Between, zero32, half32, one32, float}
 use Rattle.rules.specs.Whole.{floorOf}
 use Rattle.rules.specs.Refusals.{high11, coordinateTaken}
 use Rattle.rules.specs.Places.{nearestOf}
-use Rattle.rules.specs.Wrapping.{wrapOf}
-use Rattle.rules.specs.Bilinear.{spanOf, axisOf}
-use Rattle.rules.specs.declared.Mode.{Mode}
+use Rattle.rules.specs.Bilinear.{spanOf}
 use Rattle.texel.specs.Ends.{low23, high23}
 use Rattle.texel.proofs.Range.{neg-order, Between-finite, in-mul-by, in-sub, le-trans-finite}
 use Rattle.texel.proofs.Unit.{ends}
 use Rattle.texel.proofs.Coord.{coord-in}
-use Rattle.texel.proofs.Fraction.{fraction-in}
+use Rattle.texel.proofs.Wholes.{IsInt, int-is, add-int, floor-int}
+use Rattle.places.specs.Stands.{Counted, Stands}
 use Rattle.places.proofs.Rests.{suc-mul}
 use Rattle.places.proofs.Wholes.{value-finite, below-value, neg-value, mul-whole, sub-whole, sub-apart}
 use Rattle.places.proofs.Coordinates.{low11, taken-in}
@@ -132,21 +130,22 @@ module _ (u : Float) (w : ℕ) (t : T (coordinateTaken u)) (a : 1 ≤ w) (b : w 
       (subst (λ (n : ℕ). HasValue (sub binary32 (mul binary32 high11 (float w)) zero32) false n 1) (less-none (2048 * w)) (sub-whole (mul binary32 high11 (float w)) zero32 (2048 * w) 0 highest (refl, refl) zero-le (omega arith)))
       (in-sub binary32 _ _ _ zero32 half32 one32 (value-finite (mul binary32 low11 (float w)) true (2048 * w) 1 lowest) (value-finite (mul binary32 high11 (float w)) false (2048 * w) 1 highest) tt tt product-in half-in)
 
--- a floor of these is a float as it is, and so a number that the code can add 1 to
-pub in-float : (t : ℤ) (n : ℕ) → natAbs t ≤ n → n ≤ 8388609 → T (inFloat binary32 t)
-unfolding inFloat
-in-float (pos k) n h l = le→leb k (2 ^ 24) (omega arith)
-in-float (negsuc k) n h l = lt→ltb k (2 ^ 24) (omega arith)
+-- ---- a texel number as a float
+pub counted : (t : Float) (z : ℤ) (d : ℕ) → t ≡ ofInt binary32 z → natAbs z ≤ 2048 * d + 1 → d ≤ 4096 → Counted t d × (floorOf t ≡ z)
+counted t z d e h b =
+    let i : floorOf t ≡ z = ap floorOf e ∙ floor-int (ofInt binary32 z) z (int-is binary32 z (omega arith)) in
+    (record { is = e ∙ ap (ofInt binary32) (sym i); near = subst (λ (n : ℤ). natAbs n ≤ 2048 * d + 1) (sym i) h }, i)
 
-pub mag-small : (t : ℤ) (n : ℕ) → natAbs t ≤ n → n ≤ 8388609 → mag t < 2 ^ 63
-mag-small (pos k) n h l = omega arith
-mag-small (negsuc k) n h l = omega arith
-
-pub part-in : (x : Float) (t : ℤ) → Between low23 x high23 → t ≡ floorOf x → Between zero32 (sub binary32 x (ofInt binary32 t)) one32
-part-in x t b e = subst (λ (z : ℤ). Between zero32 (sub binary32 x (ofInt binary32 z)) one32) (sym e) (fraction-in x b)
-
--- the axis, from its floor and the two wrapped numbers
-pub at-axis : (mode : Mode) (x : Float) (w : ℕ) (t : ℤ) (a b : ℕ) → t ≡ floorOf x → a ≡ wrapOf mode t w → b ≡ wrapOf mode (t +ℤ pos 1) w
-    → record { first = a; second = b; part = sub binary32 x (ofInt binary32 t) } ≡ axisOf mode x w
-unfolding axisOf
-at-axis mode x w t a b e i j = rw (i, j, e)
+-- where a coordinate stands, from the floor of x_f
+pub stands : (u : Float) (w : ℕ) → T (coordinateTaken u) → 1 ≤ w → w ≤ 4096 → (t : Float) → t ≡ ofInt binary32 (floorOf (spanOf u w))
+    → Stands u w (record { here = t; next = add binary32 t one32; part = sub binary32 (spanOf u w) t })
+unfolding ofBits
+stands u w taken a b t e =
+    let z = floorOf (spanOf u w) in
+    let f = span-floored u w taken a b in
+    let near : natAbs z ≤ 2048 * w + 1 = let h = f .near in omega arith in
+    let after : natAbs (z +ℤ pos 1) ≤ 2048 * w + 1 = let h = f .next in omega arith in
+    let here = counted t z w e near b in
+    let sum : add binary32 t one32 ≡ ofInt binary32 (z +ℤ pos 1) = add-int binary32 t one32 z (pos 1) (subst (λ (x : Float). IsInt x z) (sym e) (int-is binary32 z (omega arith))) (refl, refl) (omega arith) (lit≤ tt) (omega arith) in
+    let next = counted (add binary32 t one32) (z +ℤ pos 1) w sum after b in
+    record { here = here .0; next = next .0; floor = here .1; after = next .1; rest = ap (sub binary32 (spanOf u w)) e }

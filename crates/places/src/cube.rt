@@ -38,12 +38,12 @@ pub fn pairing(fraction: f32, top: usize) -> Pairing
     ensures { λ r. ⌜ (r ≡ pairingOf fraction top) × (r .low ≤ top) × (r .high ≤ top) × Between zero32 (r .part) one32 ⌝ }
 {
     let held = hold(fraction, top as u32 as f32);
-    let l = texel::whole::floor(held);
-    let low = l as usize;
+    let l = texel::whole::floor_near(held);
+    let low = l as u32 as usize;
     Pairing {
         low,
         high: lower(low + 1, top),
-        part: held - (l as f32),
+        part: held - l,
     }
 }
 

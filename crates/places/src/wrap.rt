@@ -1,14 +1,19 @@
-// A wrap code to a mode, and a texel number wrapped into a side.
-use crate::choice::larger;
-use crate::choice::smaller;
+// A wrap code to a mode, and texel numbers wrapped into a side: f32 numbers that are whole, so that four lanes are wrapped side by side.
+use crate::choice::pick;
+use rules::Lanes;
 use rules::Mode;
+use rules::Wholes;
 use rules::Wrap;
 ghost use mathlib.Core.Path.{_≡_};
-ghost use Prim.Native.Nat.{_+_, _-_, _*_, _%_, _≤_, _<_, min, max};
-ghost use lib.IntN.{pos, natAbs, _+ℤ_};
+ghost use Prim.Native.Nat.{_≤_};
+ghost use lib.Ieee.{binary32, div};
 ghost use Rattle.rules.specs.declared.Mode.the-variants.{Repeat, Clamp, Mirror};
+ghost use Rattle.rules.specs.Floats.{Between};
+ghost use Rattle.rules.specs.Whole.{floorOf};
 ghost use Rattle.rules.specs.Wrapping.{wrapCode, wrapOf};
-ghost use Rattle.places.specs.Stands.{twoAt};
+ghost use Rattle.texel.specs.Ends.{low12, high12};
+ghost use Rattle.places.specs.Sources.{least as leastOf, most as mostOf, restSource};
+ghost use Rattle.places.specs.Stands.{Counted, AllCounted, wrapsOf};
 
 // 10497 Repeat, 33071 ClampToEdge, 33648 MirroredRepeat, 0 not given; refusal 4 for every other code.
 pub fn wrap_code(code: u32) -> Wrap
@@ -23,89 +28,77 @@ pub fn wrap_code(code: u32) -> Wrap
     }
 }
 
-// t lifted by 2050 sides, which is an even number of them: a coordinate's texel number is then not negative.
-pub fn lifted(t: i64, d: usize) -> u32
-    requires { ⌜ (1 ≤ d) × (d ≤ 4096) × (natAbs t ≤ 2048 * d + 1) ⌝ }
-    ensures { λ r. ⌜ (pos r ≡ t +ℤ pos (2050 * d)) × (r ≤ 4098 * d + 1) ⌝ }
+// The smaller of two numbers, and the larger.
+fn least(a: f32, b: f32) -> f32
+    ensures { λ r. ⌜ r ≡ leastOf a b ⌝ }
 {
-    (t + ((2050 * d) as i64)) as u32
+    pick(a < b, a, b)
 }
 
-// The number of which n is the lifted one, held to 0..d-1.
-fn held(n: u32, d: u32) -> u32
-    requires { ⌜ (1 ≤ d) × (d ≤ 4096) ⌝ }
-    ensures { λ r. ⌜ r ≡ min (max n (2050 * d) - 2050 * d) (d - 1) ⌝ }
+fn most(a: f32, b: f32) -> f32
+    ensures { λ r. ⌜ r ≡ mostOf a b ⌝ }
 {
-    smaller(larger(n, 2050 * d) - 2050 * d, d - 1)
+    pick(b < a, a, b)
+}
+
+// t - floor(t / n) * n.
+fn rest(t: f32, n: f32) -> f32
+    requires { ⌜ Between low12 (div binary32 t n) high12 ⌝ }
+    ensures { λ r. ⌜ r ≡ restSource t n ⌝ }
+{
+    t - texel::whole::floor_near(t / n) * n
+}
+
+// The remainder of t by d.
+fn repeated(t: f32, d: u32) -> u32
+    requires { ⌜ Counted t d × (1 ≤ d) × (d ≤ 4096) ⌝ }
+    ensures { λ r. ⌜ r ≡ wrapOf Repeat (floorOf t) d ⌝ }
+{
+    rest(t, d as f32) as i32 as u32
+}
+
+// t held to 0..d-1.
+fn held(t: f32, d: u32) -> u32
+    requires { ⌜ Counted t d × (1 ≤ d) × (d ≤ 4096) ⌝ }
+    ensures { λ r. ⌜ r ≡ wrapOf Clamp (floorOf t) d ⌝ }
+{
+    least(most(t, 0.0), (d as f32) - 1.0) as i32 as u32
 }
 
 // min(r, 2d - r, d - 1), for r the remainder by 2d.
-fn mirrored(r: u32, d: u32) -> u32
-    requires { ⌜ (1 ≤ d) × (d ≤ 4096) × (r < 2 * d) ⌝ }
-    ensures { λ n. ⌜ n ≡ min (min r (2 * d - r)) (d - 1) ⌝ }
+fn mirrored(t: f32, d: u32) -> u32
+    requires { ⌜ Counted t d × (1 ≤ d) × (d ≤ 4096) ⌝ }
+    ensures { λ r. ⌜ r ≡ wrapOf Mirror (floorOf t) d ⌝ }
 {
-    smaller(smaller(r, 2 * d - r), d - 1)
+    let side = d as f32;
+    let two = side * 2.0;
+    let r = rest(t, two);
+    least(least(r, two - r), side - 1.0) as i32 as u32
 }
 
-// A texel number along a side, and the next.
-pub struct Two {
-    pub first: usize,
-    pub second: usize,
-}
-
-// The number after r, of the numbers below d.
-fn next(r: u32, d: u32) -> u32
-    requires { ⌜ (r < d) × (d ≤ 8192) ⌝ }
-    ensures { λ n. ⌜ n ≡ (r + 1) % d ⌝ }
+// Each of four texel numbers wrapped into the side d: the remainder, t held to the side, or mirrored.
+pub fn wrap_four(mode: Mode, t: Lanes, d: u32) -> Wholes
+    requires { ⌜ AllCounted t d × (1 ≤ d) × (d ≤ 4096) ⌝ }
+    ensures { λ r. ⌜ r ≡ wrapsOf mode t d ⌝ }
 {
-    if r + 1 < d { r + 1 } else { 0 }
-}
-
-// The remainders of a lifted number and of the next.
-pub fn repeated_two(n: u32, d: u32) -> Two
-    requires { ⌜ (1 ≤ d) × (d ≤ 4096) ⌝ }
-    ensures { λ r. ⌜ r ≡ twoAt Repeat n d ⌝ }
-{
-    let r = n % d;
-    Two {
-        first: r as usize,
-        second: next(r, d) as usize,
-    }
-}
-
-// The same, held to the side.
-pub fn held_two(n: u32, d: u32) -> Two
-    requires { ⌜ (1 ≤ d) × (d ≤ 4096) × (n ≤ 4098 * d + 1) ⌝ }
-    ensures { λ r. ⌜ r ≡ twoAt Clamp n d ⌝ }
-{
-    Two {
-        first: held(n, d) as usize,
-        second: held(n + 1, d) as usize,
-    }
-}
-
-// The same, mirrored.
-pub fn mirrored_two(n: u32, d: u32) -> Two
-    requires { ⌜ (1 ≤ d) × (d ≤ 4096) ⌝ }
-    ensures { λ r. ⌜ r ≡ twoAt Mirror n d ⌝ }
-{
-    let r = n % (2 * d);
-    Two {
-        first: mirrored(r, d) as usize,
-        second: mirrored(next(r, 2 * d), d) as usize,
-    }
-}
-
-// The texel number t wrapped into the side d: the remainder, t held to the side, or mirrored.
-pub fn wrap(mode: Mode, t: i64, d: usize) -> usize
-    requires { ⌜ (1 ≤ d) × (d ≤ 4096) × (natAbs t ≤ 2048 * d + 1) ⌝ }
-    ensures { λ r. ⌜ (r ≡ wrapOf mode t d) × (r < d) ⌝ }
-{
-    let n = lifted(t, d);
-    let side = d as u32;
     match mode {
-        Mode::Repeat => (n % side) as usize,
-        Mode::Clamp => held(n, side) as usize,
-        Mode::Mirror => mirrored(n % (2 * side), side) as usize,
+        Mode::Repeat => Wholes {
+            a: repeated(t.a, d),
+            b: repeated(t.b, d),
+            c: repeated(t.c, d),
+            d: repeated(t.d, d),
+        },
+        Mode::Clamp => Wholes {
+            a: held(t.a, d),
+            b: held(t.b, d),
+            c: held(t.c, d),
+            d: held(t.d, d),
+        },
+        Mode::Mirror => Wholes {
+            a: mirrored(t.a, d),
+            b: mirrored(t.b, d),
+            c: mirrored(t.c, d),
+            d: mirrored(t.d, d),
+        },
     }
 }

@@ -204,7 +204,7 @@ size-le true a n d e h = omega arith
 size-le false a n d e h = omega arith
 
 module _ (f : Format) (a j E : ℕ) (c : a * 2 ^ j ≡ E + 8388608) (some : 0 < E) (x : Float) (b : Between low23 x high23)
-  (least : hid f * den x ≤ raised x b .n + E * den x) (most : suc (raised x b .n / den x + E) < 2 ^ prec f) (room : E + 8388608 ≤ 2 ^ prec f) (big : 8388609 ≤ 2 ^ prec f) where
+    (least : hid f * den x ≤ raised x b .n + E * den x) (most : suc (raised x b .n / den x + E) < 2 ^ prec f) (room : E + 8388608 ≤ 2 ^ prec f) (big : 8388609 ≤ 2 ^ prec f) where
   abbrev n : ℕ
   n = raised x b .n
 

@@ -1,33 +1,17 @@
--- `places::cube::pairing` meets its contract. The machine reads a signed number back from its bits (`toZ-ofZ`). Assumes nothing.
-use mathlib.Core.Path.{_≡_, sym, subst}
-use Prim.Native.Nat.{_+_, min}
+-- `places::cube::pairing` meets its contract: the floor of the held level is a whole number up to the top level. Assumes nothing.
+use mathlib.Core.Path.{_≡_, sym, subst, _∙_}
 use native.Mathlib.Omega.{arith}
-use lib.IntN.{ℤ, natAbs}
 use lib.Ieee.{Float}
-use mir.Syntax.{w64}
-use mir.Val.{toZ, ofZ}
-use mir.ValLaws.{toZ-ofZ}
 use Rattle.rules.specs.Floats.{Between}
-use Rattle.texel.specs.Ends.{low23, high23}
+use Rattle.texel.specs.Ends.{low12, high12}
 use Rattle.texel.proofs.Coord.{side-float}
 use Rattle.places.proofs.Pairs.{held-range, Known, known, at-pairing}
 use borrow.Author.Needs.{needs}
 use Rattle.places.proofs.cube.pairing.Statement.{statement}
 use Rattle.places.proofs.cube.pairing.Tie as tie
 
--- the floor l of the held level, and what is known of it
-module _ (c : tie.After-floor) where
-  abbrev l-of : ℤ
-  l-of = c .floor .result
-
-  abbrev s-of : tie.Start
-  s-of = c .before .before .before
-
-  same : toZ w64 (ofZ w64 l-of) ≡ l-of
-  same = toZ-ofZ w64 l-of (search needs)
-
-  facts : Known (c .before .hold .result) (s-of .args .top) l-of
-  facts = known (s-of .args .fraction) (c .before .hold .result) (s-of .args .top) l-of (s-of .pre .0) (s-of .pre .1) (c .before .hold .ensures) (c .floor .ensures)
+facts : (c : tie.After-floor-near) → let s = c .before .before .before in Known (c .before .hold .result) (s .args .top) (c .floor-near .result)
+facts c = let s = c .before .before .before in known (s .args .fraction) (c .before .hold .result) (s .args .top) (c .floor-near .result) (s .pre .0) (s .pre .1) (c .before .hold .ensures) (c .floor-near .ensures)
 
 cast-hold : tie.Need-cast-hold
 cast-hold c = search needs
@@ -38,32 +22,31 @@ int-to-float-hold c = side-float _ (omega arith)
 hold-requires : tie.Need-hold-requires
 hold-requires c κs = search needs
 
-floor-requires : tie.Need-floor-requires
-floor-requires c κs =
+floor-near-requires : tie.Need-floor-near-requires
+floor-near-requires c κs =
     let s = c .before .before in
-    subst (λ (x : Float). Between low23 x high23) (sym (c .hold .ensures)) (held-range (s .args .fraction) (s .args .top) (s .pre .0) (s .pre .1))
+    subst (λ (x : Float). Between low12 x high12) (sym (c .hold .ensures)) (held-range (s .args .fraction) (s .args .top) (s .pre .0) (s .pre .1))
+
+float-to-int-low : tie.Need-float-to-int-low
+float-to-int-low c = facts (c .before) .whole
 
 cast-low : tie.Need-cast-low
-cast-low c = let k = facts c in rw (same c) (k .above, omega (arith, k .most, s-of c .pre .1))
+cast-low c = let k = facts (c .before) in let h = c .before .before .before .before .pre .1 in rw (k .cut) (omega (arith, k .most))
 
 add-lower : tie.Need-add-lower
-add-lower c = let k = facts c in rw (same c) (omega (arith, k .most, s-of c .pre .1))
+add-lower c = let k = facts (c .before) in let h = c .before .before .before .before .pre .1 in rw (k .cut) (omega (arith, k .most))
 
 lower-requires : tie.Need-lower-requires
 lower-requires c κs = search needs
 
-int-to-float-t7 : tie.Need-int-to-float-t7
-int-to-float-t7 c = let d = c .before .before in rw (same d) (facts d .small)
-
 returns : tie.Need-returns
 returns c =
     let d = c .before .before in
-    let s = s-of d in
+    let s = d .before .before .before in
     let k = facts d in
-    let e : c .before .lower .result ≡ min (natAbs (l-of d) + 1) (s .args .top) = rw (same d) at (c .before .lower .ensures) in
-    rw (same d) (
-      at-pairing (s .args .fraction) _ (s .args .top) (l-of d) _ (d .before .hold .ensures) (d .floor .ensures) e,
-      k .most,
+    let e = c .lower .ensures in (
+      at-pairing (s .args .fraction) _ (s .args .top) _ _ _ (d .before .hold .ensures) (d .floor-near .ensures) (k .cut) e,
+      rw (k .cut) (k .most),
       omega arith,
       k .weight,
     )
@@ -75,9 +58,9 @@ pairing-spec =
     cast-hold
     int-to-float-hold
     hold-requires
-    floor-requires
+    floor-near-requires
+    float-to-int-low
     cast-low
     add-lower
     lower-requires
-    int-to-float-t7
     returns)
