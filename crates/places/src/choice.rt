@@ -1,7 +1,7 @@
 // Choices that compile to no branch: both arms are worked out already.
 ghost use mathlib.Core.Path.{_≡_};
 ghost use mathlib.Core.Bool.{cond, _&&_, _||_};
-ghost use Prim.Native.Nat.{min, max};
+ghost use Prim.Native.Nat.{_≤_, min, max};
 ghost use Rattle.rules.specs.Refusals.{unless as unlessOf, _orElse_};
 
 // The smaller of two numbers.
@@ -37,6 +37,21 @@ pub fn all_four(a: bool, b: bool, c: bool, d: bool) -> bool
     ensures { λ r. ⌜ r ≡ (a && (b && (c && d))) ⌝ }
 {
     both(a, both(b, both(c, d)))
+}
+
+// 1 where the test holds, else 0.
+fn one_if(test: bool) -> u32
+    ensures { λ r. ⌜ (r ≡ cond test 1 0) × (r ≤ 1) ⌝ }
+{
+    if test { 1 } else { 0 }
+}
+
+// Whether four tests hold, by their count: where each lane has many tests the compiler keeps four lanes side by side for a sum,
+// and shuffles them for tests that are joined.
+pub fn all_counted(a: bool, b: bool, c: bool, d: bool) -> bool
+    ensures { λ r. ⌜ r ≡ (a && (b && (c && d))) ⌝ }
+{
+    one_if(a) + one_if(b) + one_if(c) + one_if(d) == 4
 }
 
 // n where the test fails, else 0.

@@ -1,4 +1,5 @@
 // The refusals of four lanes: one bad lane refuses all four.
+use crate::choice::all_counted;
 use crate::choice::all_four;
 use crate::choice::both;
 use crate::choice::or_else;
@@ -63,7 +64,7 @@ fn directions_taken(x: Lanes, y: Lanes, z: Lanes) -> bool
     let b = direction_taken(x.b, y.b, z.b);
     let c = direction_taken(x.c, y.c, z.c);
     let d = direction_taken(x.d, y.d, z.d);
-    all_four(a, b, c, d)
+    all_counted(a, b, c, d)
 }
 
 // 7: a direction component not finite, or the largest magnitude below 2^-60 or above 2^60.

@@ -16,13 +16,13 @@ direction-taken-requires-3 c κs = search needs
 direction-taken-requires-4 : tie.Need-direction-taken-requires-4
 direction-taken-requires-4 c κs = search needs
 
-all-four-requires : tie.Need-all-four-requires
-all-four-requires c κs = search needs
+all-counted-requires : tie.Need-all-counted-requires
+all-counted-requires c κs = search needs
 
 returns : tie.Need-returns
 unfolding inDirections
 returns c = rw (
-  c .all-four .ensures,
+  c .all-counted .ensures,
   c .before .direction-taken4 .ensures,
   c .before .before .direction-taken3 .ensures,
   c .before .before .before .direction-taken2 .ensures,
@@ -37,5 +37,5 @@ directions-taken-spec =
     direction-taken-requires-2
     direction-taken-requires-3
     direction-taken-requires-4
-    all-four-requires
+    all-counted-requires
     returns)
