@@ -1,5 +1,6 @@
 pub mod Passing
 pub mod Starts
+pub mod Walks
 pub mod Viewing
 pub mod Rows
 pub mod Cuts

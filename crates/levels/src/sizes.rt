@@ -4,7 +4,7 @@ use crate::refusals::or_else;
 use crate::refusals::picture_refusal;
 use rules::Sizes;
 ghost use mathlib.Core.Path.{_≡_};
-ghost use Prim.Native.Nat.{_<_, _≤_, max};
+ghost use Prim.Native.Nat.{_<_, _≤_, min, max};
 ghost use Rattle.rules.specs.Kinds.{facesOf};
 ghost use Rattle.rules.specs.Sizes.{sideAt, log2, top, sizeAt, start, count};
 ghost use Rattle.rules.specs.Refusals.{levelSizesRefusal};
@@ -29,8 +29,15 @@ pub fn side_at(side: u32, level: u32) -> u32
     if s < 1 { 1 } else { s }
 }
 
+// The smaller side.
+pub fn smaller(width: u32, height: u32) -> u32
+    ensures { λ r. ⌜ r ≡ min width height ⌝ }
+{
+    if width < height { width } else { height }
+}
+
 // The larger side.
-fn larger(width: u32, height: u32) -> u32
+pub fn larger(width: u32, height: u32) -> u32
     ensures { λ r. ⌜ r ≡ max width height ⌝ }
 {
     if width < height { height } else { width }
@@ -40,7 +47,7 @@ fn larger(width: u32, height: u32) -> u32
 fn log2(n: u32) -> u32
     ensures { λ r. ⌜ r ≡ log2 n ⌝ }
 {
-    if n < 2 { 0 } else { 31 - u32::leading_zeros(n) }
+    31 - u32::leading_zeros(n | 1)
 }
 
 // The top level: floor(log2(larger side)).
