@@ -1,4 +1,5 @@
 // The bilinear lookup: the four texels around a coordinate, blended by the two weights.
+use crate::corners::axis;
 use crate::corners::corners;
 use crate::pixel::opacity_at;
 use crate::pixel::rgb_four;
@@ -39,10 +40,30 @@ pub fn squares(p: Plane, faces: Wholes, s: Mode, t: Mode, u: Lanes, v: Lanes) ->
 {
     let x = four_axes(s, u, p.width);
     let y = four_axes(t, v, p.height);
-    let a = corners(p, faces.a as usize, x.a, y.a);
-    let b = corners(p, faces.b as usize, x.b, y.b);
-    let c = corners(p, faces.c as usize, x.c, y.c);
-    let d = corners(p, faces.d as usize, x.d, y.d);
+    let a = corners(
+        p,
+        faces.a as usize,
+        axis(x.first.a, x.second.a, x.part.a),
+        axis(y.first.a, y.second.a, y.part.a),
+    );
+    let b = corners(
+        p,
+        faces.b as usize,
+        axis(x.first.b, x.second.b, x.part.b),
+        axis(y.first.b, y.second.b, y.part.b),
+    );
+    let c = corners(
+        p,
+        faces.c as usize,
+        axis(x.first.c, x.second.c, x.part.c),
+        axis(y.first.c, y.second.c, y.part.c),
+    );
+    let d = corners(
+        p,
+        faces.d as usize,
+        axis(x.first.d, x.second.d, x.part.d),
+        axis(y.first.d, y.second.d, y.part.d),
+    );
     all_squares(a, b, c, d)
 }
 

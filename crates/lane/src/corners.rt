@@ -10,6 +10,17 @@ ghost use mathlib.Core.Path.{_≡_};
 ghost use Rattle.rules.specs.Bilinear.{cornersOf};
 ghost use Rattle.lane.specs.Held.{Sized};
 
+// One lane's texel numbers along a side, and how far it lies above.
+pub fn axis(first: u32, second: u32, part: f32) -> Axis
+    ensures { λ r. ⌜ r ≡ record { first = first; second = second; part = part } ⌝ }
+{
+    Axis {
+        first: first as usize,
+        second: second as usize,
+        part,
+    }
+}
+
 // The places p00, p10, p01, p11 of a face, and the weights.
 pub fn corners(p: Plane, face: usize, x: Axis, y: Axis) -> Square
     requires { ⌜ Sized p ⌝ }

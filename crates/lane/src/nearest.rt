@@ -1,7 +1,7 @@
 // The nearest lookup: the texel at floor(u * width), floor(v * height), wrapped into the level.
 use crate::reading::Reading;
 use crate::reading::all_places;
-use places::axis::nearest;
+use places::axis::nearest_four;
 use places::place::place;
 use rules::Lanes;
 use rules::Mode;
@@ -17,9 +17,11 @@ pub fn nearest_places(p: Plane, s: Mode, t: Mode, u: Lanes, v: Lanes) -> Reading
     requires { ⌜ Sized p × Coordinates u v ⌝ }
     ensures { λ r. ⌜ r ≡ readingOf (nearestPlace p s t (u .a) (v .a)) (nearestPlace p s t (u .b) (v .b)) (nearestPlace p s t (u .c) (v .c)) (nearestPlace p s t (u .d) (v .d)) ⌝ }
 {
-    let a = place(p, 0, nearest(s, u.a, p.width), nearest(t, v.a, p.height));
-    let b = place(p, 0, nearest(s, u.b, p.width), nearest(t, v.b, p.height));
-    let c = place(p, 0, nearest(s, u.c, p.width), nearest(t, v.c, p.height));
-    let d = place(p, 0, nearest(s, u.d, p.width), nearest(t, v.d, p.height));
+    let x = nearest_four(s, u, p.width);
+    let y = nearest_four(t, v, p.height);
+    let a = place(p, 0, x.a as usize, y.a as usize);
+    let b = place(p, 0, x.b as usize, y.b as usize);
+    let c = place(p, 0, x.c as usize, y.c as usize);
+    let d = place(p, 0, x.d as usize, y.d as usize);
     all_places(a, b, c, d)
 }
