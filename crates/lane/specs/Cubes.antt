@@ -7,7 +7,6 @@ use Rattle.rules.specs.declared.Lanes.{Lanes}
 use Rattle.rules.specs.declared.Directions.{Directions}
 use Rattle.rules.specs.declared.Rgb.{Rgb}
 use Rattle.rules.specs.declared.Place.{Place}
-use Rattle.rules.specs.declared.Plane.{Plane}
 use Rattle.rules.specs.declared.Spot.{Spot}
 use Rattle.rules.specs.declared.Spots.{Spots}
 use Rattle.rules.specs.declared.Pairing.{Pairing}
@@ -16,10 +15,9 @@ use Rattle.rules.specs.declared.Colour.the-variants.{Rgb as Coloured, Refused a
 use Rattle.rules.specs.Kinds.{cubemap}
 use Rattle.rules.specs.Sizes.{top}
 use Rattle.rules.specs.Lanes.{lanesOf, rgbLanes}
-use Rattle.rules.specs.Places.{planeOf, placeOf, rgbOf}
-use Rattle.rules.specs.Cubemap.{cubeTexel, cubePlace, pairingOf, lerpRgb}
+use Rattle.rules.specs.Places.{planeOf, rgbOf}
+use Rattle.rules.specs.Cubemap.{cubePlace, pairingOf, lerpRgb}
 use Rattle.places.specs.Spots.{OnCube}
-use Rattle.lane.specs.declared.cubemap.Aim.{Aim}
 use Rattle.lane.specs.declared.reading.Reading.{Reading}
 use Rattle.lane.specs.declared.reading.Reading.the-variants.{At, Refused}
 use Rattle.lane.specs.declared.trilinear.Pairings.{Pairings}
@@ -47,13 +45,6 @@ pub record AllOnCube (s : Spots) : Type 0 where
   pub on-b : OnCube (spotB s)
   pub on-c : OnCube (spotC s)
   pub on-d : OnCube (spotD s)
-
--- the nearest texel on a face, and its place
-abbrev pub aimOf : Plane → Spot → Aim
-aimOf p s = record { plane = p; face = s .face; x = cubeTexel (s .u) (p .width); y = cubeTexel (s .v) (p .height) }
-
-abbrev pub aimPlace : Aim → Place
-aimPlace t = placeOf (t .plane) (t .face) (t .x) (t .y)
 
 -- where a lane reads a level that is lowered to the top level
 abbrev pub loweredPlace : ℕ → ℕ → Spot → ℕ → Place

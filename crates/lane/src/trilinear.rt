@@ -1,7 +1,6 @@
 // The trilinear cubemap lookup: two levels, blended by the fraction between them.
-use crate::cubemap::Aim;
-use crate::cubemap::aim_at;
-use crate::cubemap::four_aims;
+use crate::cubemap::cube_place;
+use crate::number::place_number;
 use crate::number::reading_number;
 use crate::pixel::rgb_four;
 use crate::plane::plane;
@@ -17,6 +16,7 @@ use places::cube::pairing;
 use rules::Directions;
 use rules::Lanes;
 use rules::Pairing;
+use rules::Place;
 use rules::Spot;
 use rules::Spots;
 ghost use mathlib.Core.Path.{_≡_};
@@ -25,13 +25,12 @@ ghost use lib.Ieee.Scale.{finite};
 ghost use Rattle.rules.specs.Kinds.{cubemap, facesOf};
 ghost use Rattle.rules.specs.Sizes.{top};
 ghost use Rattle.rules.specs.Lanes.{lanesOf};
-ghost use Rattle.rules.specs.Places.{planeOf};
 ghost use Rattle.rules.specs.Cubemap.{lerpOf};
 ghost use Rattle.rules.proofs.Refusing.{Taken};
 ghost use Rattle.rules.proofs.RefusingLookups.{EachLane};
 ghost use Rattle.places.specs.Spots.{OnCube};
 ghost use Rattle.levels.specs.Starts.{Started};
-ghost use Rattle.lane.specs.Cubes.{spotA, spotB, spotC, spotD, AllOnCube, aimOf, pairingsOf, UpTo, partsOf, twoLanes, betweenOf, lerpedRgb};
+ghost use Rattle.lane.specs.Cubes.{spotA, spotB, spotC, spotD, AllOnCube, levelPlace, pairingsOf, UpTo, partsOf, twoLanes, betweenOf, lerpedRgb};
 ghost use Rattle.lane.specs.Reading.{Inside};
 
 // The two levels of each lane.
@@ -67,11 +66,11 @@ pub fn two_levels(levels: Lanes, top: usize) -> Pairings
 }
 
 // Where a lane reads one of its two levels.
-fn level_aim(starts: &[u32], width: u32, height: u32, s: Spot, level: usize) -> Aim
+fn level_place(starts: &[u32], width: u32, height: u32, s: Spot, level: usize) -> Place
     requires { ⌜ Taken cubemap width height × Started (facesOf cubemap) width height (now starts) × OnCube s × (level ≤ top width height) ⌝ }
-    ensures { λ r. ⌜ r ≡ aimOf (planeOf cubemap width height level) s ⌝ }
+    ensures { λ r. ⌜ r ≡ levelPlace width height s level ⌝ }
 {
-    aim_at(plane(starts, 3, width, height, level as u32), s)
+    cube_place(plane(starts, 3, width, height, level as u32), s)
 }
 
 // The places of two lanes, each at its lower and its upper level.
@@ -88,11 +87,23 @@ fn two_lanes(
     requires { ⌜ (m .low ≤ top width height) × (m .high ≤ top width height) × (n .low ≤ top width height) × (n .high ≤ top width height) ⌝ }
     ensures { λ r. ⌜ r ≡ twoLanes width height s m t n ⌝ }
 {
-    let a = level_aim(starts, width, height, s, m.low);
-    let b = level_aim(starts, width, height, s, m.high);
-    let c = level_aim(starts, width, height, t, n.low);
-    let d = level_aim(starts, width, height, t, n.high);
-    four_aims(a, b, c, d)
+    let found_a = level_place(starts, width, height, s, m.low);
+    let Place::At(a) = found_a else {
+        return Reading::Refused(place_number(found_a));
+    };
+    let found_b = level_place(starts, width, height, s, m.high);
+    let Place::At(b) = found_b else {
+        return Reading::Refused(place_number(found_b));
+    };
+    let found_c = level_place(starts, width, height, t, n.low);
+    let Place::At(c) = found_c else {
+        return Reading::Refused(place_number(found_c));
+    };
+    let found_d = level_place(starts, width, height, t, n.high);
+    let Place::At(d) = found_d else {
+        return Reading::Refused(place_number(found_d));
+    };
+    Reading::At(as_four(a, b, c, d))
 }
 
 // c0 + (c1 - c0) * t, lane by lane.
