@@ -6,7 +6,7 @@ use mathlib.Core.Bool.{Bool, true, false, cond}
 use Prim.Native.Nat.{ℕ, _+_, _*_, _/_, _≤_, min, zero-le}
 use native.Mathlib.Nat.{le-refl, zero-lt-suc, mul-le-mul-right}
 use native.Mathlib.Omega.{arith}
-use lib.IntN.{ℤ, pos, negℤ, natAbs}
+use lib.IntN.{pos, negℤ, natAbs}
 use lib.Dec.{T}
 use lib.Ieee.{Float, nan, inf, fin, binary32, up, down, le, lt, sub, round, ofInt, ofBits, toUnsigned, inUnsigned}
 use lib.Ieee.Fits.{down-pos}
@@ -18,13 +18,13 @@ use Rattle.rules.specs.Floats.{Between, zero32, one32, float}
 use Rattle.rules.specs.Whole.{floorOf}
 use Rattle.rules.specs.Cubemap.{holdOf, pairingOf}
 use Rattle.texel.specs.Ends.{low12, high12}
+use Rattle.texel.proofs.Wholes.{value-finite}
 use Rattle.texel.proofs.Range.{le→, Between-finite, le-trans-finite}
 use Rattle.texel.proofs.Unit.{ends}
 use Rattle.texel.proofs.Total.{le-or-lt}
 use Rattle.texel.proofs.Coord.{side-float}
 use Rattle.texel.proofs.Floors.{near-in}
 use Rattle.texel.proofs.Fraction.{fraction-in}
-use Rattle.places.proofs.Wholes.{value-finite}
 use Rattle.places.proofs.Spans.{upper, up-le, down-le}
 
 -- ---- held to 0..top

@@ -22,11 +22,12 @@ use Rattle.rules.specs.Whole.{floorOf}
 use Rattle.rules.specs.declared.Mode.{Mode}
 use Rattle.rules.specs.declared.Mode.the-variants.{Repeat, Clamp, Mirror}
 use Rattle.rules.specs.Wrapping.{remainderOf, heldOf, mirroredOf, wrapOf}
+use Rattle.texel.proofs.Wholes.{value-finite}
 use Rattle.texel.proofs.Range.{round-le, neg-order, Between-finite}
 use Rattle.places.specs.Sources.{least, restSource, wrapSource}
 use Rattle.places.proofs.Rests.{suc-mul, rest}
 use Rattle.places.proofs.Spans.{up-le, down-le}
-use Rattle.places.proofs.Wholes.{value-finite, below-value, above-value, neg-value, never-below, only-zero, mul-whole, sub-whole, sub-below, div-whole, least-whole, cut-whole}
+use Rattle.places.proofs.Wholes.{below-value, above-value, neg-value, never-below, only-zero, mul-whole, sub-whole, sub-below, div-whole, least-whole, cut-whole}
 
 -- c = 2^12 serves sides up to 4,096, and c = 2^13 two sides; k is c - 1
 module _ (k i : ℕ) (power : 2 ^ 149 ≡ 2 ^ i * suc k) (few : 24 + i ≤ 149 + 128) where

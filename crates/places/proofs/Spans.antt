@@ -3,7 +3,7 @@
 -- Assumes nothing.
 use mathlib.Core.Path.{_≡_, refl, sym, ap, _∙_, subst}
 use mathlib.Core.Bool.{true, false}
-use Prim.Native.Nat.{ℕ, zero, suc, _+_, _-_, _*_, _/_, _^_, _≤_, _<_, max, zero-le}
+use Prim.Native.Nat.{ℕ, zero, suc, _+_, _-_, _*_, _/_, _≤_, _<_, max, zero-le}
 use native.Mathlib.Nat.{le-of-suc-le-suc, mul-one, div-lt-iff-lt-mul}
 use native.Mathlib.Omega.{arith}
 use lib.IntN.{ℤ, pos, negsuc, negℤ, natAbs, sucℤ, _+ℤ_, +ℤ-one}
@@ -23,10 +23,10 @@ use Rattle.texel.specs.Ends.{low23, high23}
 use Rattle.texel.proofs.Range.{neg-order, Between-finite, in-mul-by, in-sub, le-trans-finite}
 use Rattle.texel.proofs.Unit.{ends}
 use Rattle.texel.proofs.Coord.{coord-in}
-use Rattle.texel.proofs.Wholes.{IsInt, int-is, add-int, floor-int}
+use Rattle.texel.proofs.Wholes.{value-finite, IsInt, int-is, add-int, floor-int}
 use Rattle.places.specs.Stands.{Counted, Stands}
 use Rattle.places.proofs.Rests.{suc-mul}
-use Rattle.places.proofs.Wholes.{value-finite, below-value, neg-value, mul-whole, sub-whole, sub-apart}
+use Rattle.places.proofs.Wholes.{below-value, neg-value, mul-whole, sub-whole, sub-apart}
 use Rattle.places.proofs.Coordinates.{low11, taken-in}
 
 -- ---- the floor of a value between two whole ends

@@ -4,24 +4,19 @@ use mathlib.Core.Path.{_≡_, refl, sym, ap, _∙_, subst, subst₂}
 use mathlib.Core.Logic.{inl, inr}
 use mathlib.Core.Bool.{Bool, true, false, cond}
 use Prim.Native.Nat.{ℕ, _+_, _-_, _*_, _/_, _≤_, _<_, min}
-use native.Mathlib.Nat.{lt-irrefl, eq-zero-or-pos, zero-lt-suc, zero-mul, mul-one, mul-pos, mul-assoc, mul-right-comm, mul-mul-mul-comm, add-mul, mul-le-mul-right, le-of-mul-le-mul-right, lt-of-mul-lt-mul-right, mul-lt-mul-of-pos-right, mul-div-cancel}
+use native.Mathlib.Nat.{lt-irrefl, eq-zero-or-pos, zero-mul, mul-one, mul-pos, mul-assoc, mul-right-comm, mul-mul-mul-comm, add-mul, mul-le-mul-right, le-of-mul-le-mul-right, lt-of-mul-lt-mul-right, mul-lt-mul-of-pos-right, mul-div-cancel}
 use native.Mathlib.Omega.{arith}
 use lib.IntN.{ℤ}
 use lib.Dec.{T, ltb, ltb→lt, lt→ltb}
 use lib.Ieee.{Float, nan, inf, fin, binary32, up, down, unlike, round, sum, neg, add, sub, mul, div, le, lt, toUnsigned}
 use lib.Ieee.Fits.{down-pos}
 use lib.Ieee.Exact.{HasValue}
-use lib.Ieee.Back.{round-whole}
-use lib.Ieee.Scale.{finite, round-same}
+use lib.Ieee.Scale.{round-same}
 use lib.Ieee.Positive.{first-pos}
 use borrow.Author.Tests.{le-ltb, ltb-true, ltb-false, ne-eqb}
 use Rattle.texel.proofs.Range.{le→}
+use Rattle.texel.proofs.Wholes.{as-whole, left, right, minus}
 use Rattle.places.proofs.Magnitudes.{same-test}
-
-pub value-finite : (x : Float) (s : Bool) (a c : ℕ) → HasValue x s a c → T (finite x)
-value-finite nan s a c v = v
-value-finite (inf t) s a c v = v
-value-finite (fin t m e) s a c v = tt
 
 -- ---- a value m * 2^e beside p / c
 pub below-value : (m : ℕ) (e : ℤ) (y : Float) (p c : ℕ) → HasValue y false p c → T (le (fin false m e) y) → m * up e * c ≤ p * down e
@@ -83,10 +78,6 @@ only-zero m e (fin false k d) p c z v h =
     nought : (a b : ℕ) → 0 < b → a * b ≡ 0 → a ≡ 0
     nought a b h e = elim (eq-zero-or-pos a) [ inl z ↦ z | inr q ↦ absurd (lt-irrefl 0 (subst (λ (n : ℕ). 0 < n) e (mul-pos q h))) ]
 
-pub as-whole : (s : Bool) (A D n : ℕ) → 0 < D → A ≡ n * D → n ≤ 16777216 → HasValue (round binary32 s A D) s n 1
-as-whole s A D n h e l =
-    subst (λ (x : Float). HasValue x s n 1) (sym (round-same binary32 s A D n 1 h (zero-lt-suc 0) (mul-one A ∙ e))) (round-whole binary32 s n l)
-
 unlike-false : (s : Bool) → unlike s false ≡ s
 unlike-false true = refl
 unlike-false false = refl
@@ -101,26 +92,10 @@ mul-whole (fin t m e) (inf u) s a b v w h = absurd w
 mul-whole (fin t m e) (fin true k d) s a b v w h = absurd (subst T (w .0) tt)
 mul-whole (fin t m e) (fin false k d) s a b v w h =
     rw (unlike-false t, v .0)
-    (as-whole s (m * up e * (k * up d)) (down e * down d) (a * b) (mul-pos (down-pos e) (down-pos d)) (times (m * up e) (k * up d) (down e) (down d) (v .1) (w .1)) h)
+    (as-whole binary32 s (m * up e * (k * up d)) (down e * down d) (a * b) (mul-pos (down-pos e) (down-pos d)) (times (m * up e) (k * up d) (down e) (down d) (v .1) (w .1)) h)
   where
     times : (A B D E : ℕ) → A * 1 ≡ a * D → B * 1 ≡ b * E → A * B ≡ a * b * (D * E)
     times A B D E p q = ap (λ (z : ℕ). z * B) (sym (mul-one A) ∙ p) ∙ ap (λ (z : ℕ). a * D * z) (sym (mul-one B) ∙ q) ∙ mul-mul-mul-comm a D b E
-
--- the cross products of two whole values
-left : (a A D E : ℕ) → A * 1 ≡ a * D → A * E ≡ a * (D * E)
-left a A D E p = ap (λ (z : ℕ). z * E) (sym (mul-one A) ∙ p) ∙ mul-assoc a D E
-
-right : (b B D E : ℕ) → B * 1 ≡ b * E → B * D ≡ b * (D * E)
-right b B D E p = ap (λ (z : ℕ). z * D) (sym (mul-one B) ∙ p) ∙ mul-right-comm b E D ∙ mul-assoc b D E
-
-minus : (a b C : ℕ) → b ≤ a → a * C - b * C ≡ (a - b) * C
-minus a b C h =
-    let e = add-mul (a - b) b C in
-    let f : (a - b + b) * C ≡ a * C = ap (λ (z : ℕ). z * C) (back a b h) in
-    omega arith
-  where
-    back : (a b : ℕ) → b ≤ a → a - b + b ≡ a
-    back a b h = omega arith
 
 -- a - b, for b up to a
 pub sub-whole : (x y : Float) (a b : ℕ) → HasValue x false a 1 → HasValue y false b 1 → b ≤ a → a ≤ 16777216 → HasValue (sub binary32 x y) false (a - b) 1
@@ -134,7 +109,7 @@ sub-whole (fin false m e) (fin true k d) a b v w h l = absurd (subst T (w .0) tt
 sub-whole (fin false m e) (fin false k d) a b v w h l =
     let C = down e * down d in
     rw (left a (m * up e) (down e) (down d) (v .1), right b (k * up d) (down e) (down d) (w .1), le-ltb (a * C) (b * C) (mul-le-mul-right C h))
-    (as-whole false (a * C - b * C) C (a - b) (mul-pos (down-pos e) (down-pos d)) (minus a b C h) (omega arith))
+    (as-whole binary32 false (a * C - b * C) C (a - b) (mul-pos (down-pos e) (down-pos d)) (minus a b C h) (omega arith))
 
 -- -a - -b, for a up to b
 pub sub-below : (x y : Float) (a b : ℕ) → HasValue x true a 1 → HasValue y true b 1 → a ≤ b → b ≤ 16777216 → HasValue (sub binary32 x y) false (b - a) 1
@@ -152,8 +127,8 @@ sub-below (fin true m e) (fin true k d) a b v w h l =
   where
     go : (t : Bool) → ltb (a * (down e * down d)) (b * (down e * down d)) ≡ t
         → HasValue (cond t (round binary32 false (b * (down e * down d) - a * (down e * down d)) (down e * down d)) (round binary32 false (a * (down e * down d) - b * (down e * down d)) (down e * down d))) false (b - a) 1
-    go true f = as-whole false _ (down e * down d) (b - a) (mul-pos (down-pos e) (down-pos d)) (minus b a (down e * down d) h) (omega arith)
-    go false f = as-whole false _ (down e * down d) (b - a) (mul-pos (down-pos e) (down-pos d)) (same (a * (down e * down d)) (b * (down e * down d)) ((b - a) * (down e * down d)) (ltb-false _ _ f) (mul-le-mul-right (down e * down d) h) (minus b a (down e * down d) h)) (omega arith)
+    go true f = as-whole binary32 false _ (down e * down d) (b - a) (mul-pos (down-pos e) (down-pos d)) (minus b a (down e * down d) h) (omega arith)
+    go false f = as-whole binary32 false _ (down e * down d) (b - a) (mul-pos (down-pos e) (down-pos d)) (same (a * (down e * down d)) (b * (down e * down d)) ((b - a) * (down e * down d)) (ltb-false _ _ f) (mul-le-mul-right (down e * down d) h) (minus b a (down e * down d) h)) (omega arith)
       where
         same : (x y z : ℕ) → y ≤ x → x ≤ y → y - x ≡ z → x - y ≡ z
         same x y z p q r = omega arith
@@ -170,7 +145,7 @@ sub-apart (fin true m e) (fin true k d) a b v w h = absurd (subst T (w .0) tt)
 sub-apart (fin true m e) (fin false k d) a b v w h =
     let C = down e * down d in
     rw (left a (m * up e) (down e) (down d) (v .1), right b (k * up d) (down e) (down d) (w .1))
-    (as-whole true (a * C + b * C) C (a + b) (mul-pos (down-pos e) (down-pos d)) (sym (add-mul a b C)) h)
+    (as-whole binary32 true (a * C + b * C) C (a + b) (mul-pos (down-pos e) (down-pos d)) (sym (add-mul a b C)) h)
 
 -- ±a / b is rounded from the fraction itself
 pub div-whole : (x y : Float) (s : Bool) (a b : ℕ) → HasValue x s a 1 → HasValue y false b 1 → 0 < b → div binary32 x y ≡ round binary32 s a b

@@ -3,19 +3,19 @@
 use mathlib.Core.Path.{_≡_, refl, sym, ap, _∙_, subst}
 use mathlib.Core.Logic.{inl, inr}
 use mathlib.Core.Bool.{Bool, true, false, cond, _&&_}
-use Prim.Native.Nat.{ℕ, zero, suc, _+_, _-_, _*_, _/_, _%_, _^_, _≤_, _<_, min, zero-le}
-use native.Mathlib.Nat.{le-trans, mul-one, mul-pos, mul-div-cancel, mul-mod-left, lt-of-lt-of-le, lt-irrefl, eq-zero-or-pos, zero-lt-suc}
+use Prim.Native.Nat.{ℕ, _-_, _*_, _/_, _%_, _^_, _≤_, _<_, min}
+use native.Mathlib.Nat.{mul-one, mul-pos, mul-div-cancel, mul-mod-left, lt-of-lt-of-le, lt-irrefl, eq-zero-or-pos, zero-lt-suc}
 use native.Mathlib.Omega.{arith}
 use lib.IntN.{ℤ, pos, negsuc, natAbs}
-use lib.Dec.{T, leb, ltb, le→leb, lt→ltb, lit<}
-use lib.Ieee.{Float, nan, inf, fin, binary32, up, down, round, sub, mul, div, le, lt, ofInt, ofBits, whole, toSigned, inSigned}
-use lib.Ieee.Fits.{down-pos, and-i, eq→eqb}
+use lib.Dec.{T, leb, ltb, le→leb, lt→ltb}
+use lib.Ieee.{Float, nan, inf, fin, binary32, up, down, round, sub, mul, div, lt, ofBits, whole, toSigned, inSigned}
+use lib.Ieee.Fits.{down-pos, and-i}
 use lib.Ieee.Exact.{HasValue}
-use lib.Ieee.Positive.{first-pos}
 use mir.Syntax.{w32}
 use mir.Val.{toZ, ofZ}
 use mir.ValLaws.{toZ-pos}
 use borrow.Author.Tests.{ltb-false}
+use Rattle.rules.specs.declared.Mode.{Mode}
 use Rattle.rules.specs.declared.Mode.the-variants.{Repeat, Clamp, Mirror}
 use Rattle.rules.specs.Floats.{Between, zero32, one32, two32, float}
 use Rattle.rules.specs.Whole.{floorOf}
@@ -149,3 +149,11 @@ module _ (t : Float) (d : ℕ) (k : Counted t d) (a : 1 ≤ d) (b : d ≤ 4096) 
   held-cut =
       subst (Cut (least (most t zero32) (sub binary32 (float d) one32))) (held-is z d)
       (cut _ (min (above z) (d - 1)) (least-whole _ _ (above z) (d - 1) (raised t z value) (last z d a b (k .near))) (omega arith))
+
+-- ---- what is wrapped into a side lies in it
+pub wrap-lt : (mode : Mode) (t : ℤ) (d : ℕ) → 1 ≤ d → wrapOf mode t d < d
+unfolding wrapOf heldOf mirroredOf
+wrap-lt Repeat t d h = rest t d h .small
+wrap-lt Clamp (pos n) d h = omega arith
+wrap-lt Clamp (negsuc n) d h = h
+wrap-lt Mirror t d h = omega arith

@@ -346,7 +346,7 @@ module _ (x : Float) (b : Between low23 x high23) where
 
   -- so it narrows to one
   pub narrows : (y : Float) → y ≡ ofInt binary32 (floorOf x) → T (fits binary32 y && not (isNan y))
-  narrows y e = let i = ofInt binary32 (floorOf x) in subst (λ (z : Float). T (fits binary32 z && not (isNan z))) (sym e) (and-i (fits binary32 i) (not (isNan i)) (ofInt-fits binary32 (floorOf x)) (no-nan i (value-finite i (below-zero (floorOf x)) (natAbs (floorOf x)) (int-is binary32 (floorOf x) floor-small))))
+  narrows y e = let i = ofInt binary32 (floorOf x) in subst (λ (z : Float). T (fits binary32 z && not (isNan z))) (sym e) (and-i (fits binary32 i) (not (isNan i)) (ofInt-fits binary32 (floorOf x)) (no-nan i (value-finite i (below-zero (floorOf x)) (natAbs (floorOf x)) 1 (int-is binary32 (floorOf x) floor-small))))
 
   pub wide-same : lt x wide ≡ false → wide ≡ ofInt binary32 (floorOf x)
   wide-same h = floor-same binary64 536870913 23 (2 ^ 52) refl (lit< tt) x b least-wide most-wide (lit≤ tt) (lit≤ tt) h ∙ narrow (floorOf x) floor-small

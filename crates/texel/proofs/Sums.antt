@@ -4,20 +4,19 @@
 use mathlib.Core.Path.{_≡_, refl, sym, ap, _∙_, subst}
 use mathlib.Core.Bool.{Bool, true, false}
 use Prim.Native.Nat.{ℕ, suc, _+_, _-_, _*_, _/_, _%_, _^_, _≤_, _<_, compare, zero-le}
-use native.Mathlib.Nat.{le-trans, le-of-eq, lt-of-lt-of-le, lt-of-le-of-lt, lt-of-not-le, not-le-of-lt, mul-one, mul-comm, mul-assoc, mul-right-comm, mul-le-mul-right, mul-lt-mul-of-pos-right, mul-pos, mul-div-cancel, le-div-iff-mul-le, div-lt-iff-lt-mul, add-mul, le-of-mul-le-mul-right, eq-of-mul-eq-mul-right}
+use native.Mathlib.Nat.{le-trans, le-of-eq, lt-of-lt-of-le, lt-of-le-of-lt, lt-of-not-le, not-le-of-lt, mul-one, mul-comm, mul-assoc, mul-right-comm, mul-le-mul-right, mul-lt-mul-of-pos-right, mul-pos, mul-div-cancel, le-div-iff-mul-le, div-lt-iff-lt-mul, eq-of-mul-eq-mul-right}
 use native.Mathlib.Omega.{arith}
 use lib.IntN.{pos}
-use lib.Dec.{T, lit<}
+use lib.Dec.{T}
 use lib.Pow.{pow-add, pow-pos, pow-mono, shl-lt, shl-shr}
-use lib.Ieee.{Float, nan, inf, fin, Format, prec, emax, low, hid, up, down, size, units, round, add, sub, toBits}
+use lib.Ieee.{Float, nan, inf, fin, Format, prec, emax, low, hid, up, down, size, units, round, add, toBits}
 use lib.Ieee.Digits.{size-lt, size-le}
 use lib.Ieee.Fits.{down-pos, reach, core, round-is}
 use lib.Ieee.Exact.{HasValue, units-val}
 use lib.Ieee.Nearest.{closest, closest-same, nearest-ge}
-use lib.Ieee.Back.{round-whole}
-use lib.Ieee.Scale.{finite, round-same}
+use lib.Ieee.Scale.{finite}
 use lib.Ieee.Positive.{num, den}
-use Rattle.texel.proofs.Range.{plus, less, sgn, add-is, sub-is}
+use Rattle.texel.proofs.Range.{plus, less, sgn, add-is}
 
 -- ---- the pattern of a value that has all the digits of its format
 size-is : (p a n : ℕ) → 2 ^ (p - 1 + a) ≤ n → n < 2 ^ (p + a) → size n - p ≡ a

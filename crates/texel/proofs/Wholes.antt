@@ -2,7 +2,7 @@
 -- the sum of two is the float of the sum, since nothing is rounded there. Assumes nothing.
 use mathlib.Core.Path.{_≡_, refl, sym, ap, _∙_, subst}
 use mathlib.Core.Bool.{Bool, true, false, cond}
-use Prim.Native.Nat.{ℕ, zero, suc, _+_, _-_, _*_, _/_, _^_, _≤_, _<_}
+use Prim.Native.Nat.{ℕ, suc, _+_, _-_, _*_, _/_, _^_, _≤_, _<_}
 use native.Mathlib.Nat.{zero-lt-suc, mul-one, mul-pos, mul-assoc, mul-right-comm, add-mul, mul-le-mul-right, mul-lt-mul-of-pos-right, mul-div-cancel}
 use native.Mathlib.Omega.{arith}
 use lib.IntN.{ℤ, pos, negsuc, negℤ, natAbs, _+ℤ_}
@@ -33,10 +33,10 @@ int-is f (negsuc n) h = round-whole f true (suc n) h
 pub is-int : (f : Format) (x : Float) (z : ℤ) → T (fits f x) → natAbs z ≤ 2 ^ prec f → IsInt x z → x ≡ ofInt f z
 is-int f x z t h v = whole-unique f x (ofInt f z) (below-zero z) (natAbs z) t (ofInt-fits f z) v (int-is f z h)
 
-pub value-finite : (x : Float) (s : Bool) (n : ℕ) → HasValue x s n 1 → T (finite x)
-value-finite nan s n v = v
-value-finite (inf t) s n v = v
-value-finite (fin t m e) s n v = tt
+pub value-finite : (x : Float) (s : Bool) (a c : ℕ) → HasValue x s a c → T (finite x)
+value-finite nan s a c v = v
+value-finite (inf t) s a c v = v
+value-finite (fin t m e) s a c v = tt
 
 -- a fraction that is a whole number, rounded
 pub as-whole : (f : Format) (s : Bool) (A D n : ℕ) → 0 < D → A ≡ n * D → n ≤ 2 ^ prec f → HasValue (round f s A D) s n 1

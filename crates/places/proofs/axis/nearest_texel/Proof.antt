@@ -1,5 +1,4 @@
 -- `places::axis::nearest_texel` meets its contract: the floor of a product within 2^23 is counted. Assumes nothing.
-use mathlib.Core.Path.{_≡_, sym, ap}
 use native.Mathlib.Omega.{arith}
 use Rattle.rules.specs.Places.{nearestOf}
 use Rattle.texel.proofs.Coord.{side-float}

@@ -1,6 +1,5 @@
 -- `places::axis::standing` meets its contract. Assumes nothing.
 use native.Mathlib.Omega.{arith}
-use lib.Ieee.{ofBits}
 use Rattle.texel.proofs.Coord.{side-float}
 use Rattle.places.proofs.Spans.{span-in, stands}
 use Rattle.places.proofs.axis.standing.Statement.{statement}

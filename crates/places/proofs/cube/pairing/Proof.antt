@@ -1,5 +1,5 @@
 -- `places::cube::pairing` meets its contract: the floor of the held level is a whole number up to the top level. Assumes nothing.
-use mathlib.Core.Path.{_≡_, sym, subst, _∙_}
+use mathlib.Core.Path.{sym, subst}
 use native.Mathlib.Omega.{arith}
 use lib.Ieee.{Float}
 use Rattle.rules.specs.Floats.{Between}

@@ -1,8 +1,8 @@
 -- `places::wrap::held` meets its contract: what is held is a whole number, and one of 32 bits. Assumes nothing.
-use mathlib.Core.Path.{_≡_, sym, subst, ap, _∙_}
+use mathlib.Core.Path.{sym, subst, ap, _∙_}
 use native.Mathlib.Omega.{arith}
 use lib.IntN.{natAbs}
-use lib.Ieee.{Float, binary32, sub, ofBits}
+use lib.Ieee.{Float, binary32, sub}
 use Rattle.rules.specs.declared.Mode.the-variants.{Clamp}
 use Rattle.rules.specs.Floats.{one32, float}
 use Rattle.rules.specs.Whole.{floorOf}

@@ -1,5 +1,5 @@
 -- `places::wrap::mirrored` meets its contract: the mirrored number is a whole one, and one of 32 bits. Assumes nothing.
-use mathlib.Core.Path.{_≡_, sym, subst, ap, _∙_}
+use mathlib.Core.Path.{sym, subst, ap, _∙_}
 use native.Mathlib.Omega.{arith}
 use lib.IntN.{natAbs}
 use lib.Ieee.{Float, binary32, sub, mul}

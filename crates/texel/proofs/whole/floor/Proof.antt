@@ -1,8 +1,7 @@
 -- `texel::whole::floor` meets its contract: both arms are the law of the f64 sum, and the floor is an f32 already. Assumes nothing.
-use mathlib.Core.Path.{_≡_, refl, sym, subst}
+use mathlib.Core.Path.{refl, sym, subst}
 use lib.Dec.{T}
-use lib.Ieee.{Float, binary32, binary64, add, sub, ofInt, ofBits}
-use Rattle.rules.specs.Whole.{floorOf}
+use lib.Ieee.{ofBits}
 use Rattle.texel.specs.Ends.{low23, high23}
 use Rattle.texel.proofs.Range.{Between-finite}
 use Rattle.texel.proofs.Patterns.{widens}
