@@ -1,6 +1,6 @@
 -- A level of a chain that the texels hold lies within them, and so does every place of it: face f, row y and column x are the
 -- digits of the place, each below its own bound. Assumes nothing.
-use mathlib.Core.Path.{_≡_, refl, subst}
+use mathlib.Core.Path.{_≡_, refl}
 use mathlib.Core.Bool.{Bool, true, false, cond, _&&_}
 use mathlib.Core.List.{List}
 use Prim.Native.Nat.{ℕ, _≤_, _<_, min}
@@ -13,21 +13,17 @@ use lib.ListN.{length}
 use lib.Ieee.{Float}
 use Rattle.rules.specs.declared.Mode.{Mode}
 use Rattle.rules.specs.declared.Plane.{Plane}
-use Rattle.rules.specs.declared.Corners.{Corners}
-use Rattle.rules.specs.declared.Square.the-variants.{At as AtSquare, Refused as NoSquare}
 use Rattle.rules.specs.declared.Spot.{Spot}
-use Rattle.rules.specs.declared.Place.{Place}
 use Rattle.rules.specs.declared.Place.the-variants.{At, Refused}
 use Rattle.rules.specs.Kinds.{cubemap, facesOf}
 use Rattle.rules.specs.Sizes.{top, sizeAt}
 use Rattle.rules.specs.Wrapping.{wrapOf}
 use Rattle.rules.specs.Places.{planeOf, placeOf, nearestOf, nearestPlace}
-use Rattle.rules.specs.Bilinear.{spanOf, axisOf, thenSquare, cornersOf, squareAt}
 use Rattle.rules.specs.Cubemap.{cubeTexel, cubePlace}
 use Rattle.rules.proofs.Sides.{side-pos, side-le}
 use Rattle.rules.proofs.Bounds.{faces-most, level-end, taken-count}
 use Rattle.rules.proofs.Refusing.{and-both, Taken, Chained}
-use Rattle.lane.specs.Held.{Sized, Held, Within}
+use Rattle.lane.specs.Held.{Sized, Held}
 
 -- a level of a picture that is taken
 pub plane-sized : {kind w h m : ℕ} → Taken kind w h → m ≤ top w h → Sized (planeOf kind w h m)
@@ -61,9 +57,6 @@ given : (test : Bool) {i j : ℕ} → cond test (At j) (Refused 9) ≡ At i → 
 given true e = (refl, cc)
 given false {i} {j} e = let z : _≡_ {A = ℕ} 0 1 = cc in absurd (omega arith)
 
-no-square : (n : ℕ) (c : Corners) → NoSquare n ≡ AtSquare c → ⊥
-no-square n c e = let z : _≡_ {A = ℕ} 0 1 = cc in omega arith
-
 -- so it is one of the texels
 pub place-below : {l : List ℕ} {p : Plane} (f x y : ℕ) {i : ℕ} → Held l p → placeOf p f x y ≡ At i → i < length l
 unfolding placeOf
@@ -81,25 +74,3 @@ nearest-below {l} {p} s t u v held e = place-below 0 (wrapOf s (nearestOf u (p .
 pub cube-below : {l : List ℕ} {p : Plane} (s : Spot) {i : ℕ} → Held l p → cubePlace p s ≡ At i → i < length l
 unfolding cubePlace
 cube-below {l} {p} s held e = place-below (s .face) (cubeTexel (s .u) (p .width)) (cubeTexel (s .v) (p .height)) held e
-
--- the four places of a square that is given
-four-within : {l : List ℕ} (q00 q10 q01 q11 : Place) (fx fy : Float) {c : Corners} → ((i : ℕ) → q00 ≡ At i → i < length l) → ((i : ℕ) → q10 ≡ At i → i < length l) → ((i : ℕ) → q01 ≡ At i → i < length l) → ((i : ℕ) → q11 ≡ At i → i < length l) → thenSquare q00 (λ p00. thenSquare q10 (λ p10. thenSquare q01 (λ p01. thenSquare q11 (λ p11. AtSquare (record { p00 = p00; p10 = p10; p01 = p01; p11 = p11; fx = fx; fy = fy }))))) ≡ AtSquare c → Within l c
-four-within {l} (At i) (At j) (At k) (At m) fx fy {c} a b d e given =
-    subst (λ (x : Corners). Within l x) (let same : record { p00 = i; p10 = j; p01 = k; p11 = m; fx = fx; fy = fy } ≡ c = cc in same)
-    (record { in00 = a i refl; in10 = b j refl; in01 = d k refl; in11 = e m refl })
-four-within (Refused n) q10 q01 q11 fx fy {c} a b d e given = absurd (no-square n c given)
-four-within (At i) (Refused n) q01 q11 fx fy {c} a b d e given = absurd (no-square n c given)
-four-within (At i) (At j) (Refused n) q11 fx fy {c} a b d e given = absurd (no-square n c given)
-four-within (At i) (At j) (At k) (Refused n) fx fy {c} a b d e given = absurd (no-square n c given)
-
-pub square-within : {l : List ℕ} {p : Plane} (f : ℕ) (s t : Mode) (u v : Float) {c : Corners} → Held l p → squareAt p f s t u v ≡ AtSquare c → Within l c
-unfolding squareAt cornersOf
-square-within {l} {p} f s t u v held e =
-    let x = axisOf s (spanOf u (p .width)) (p .width) in
-    let y = axisOf t (spanOf v (p .height)) (p .height) in
-    four-within _ _ _ _ _ _
-    (λ i h. place-below f (x .first) (y .first) held h)
-    (λ i h. place-below f (x .second) (y .first) held h)
-    (λ i h. place-below f (x .first) (y .second) held h)
-    (λ i h. place-below f (x .second) (y .second) held h)
-    e

@@ -4,15 +4,13 @@ use mathlib.Core.Path.{_≡_, refl, sym, ap, _∙_}
 use Prim.Native.Nat.{ℕ}
 use Rattle.rules.specs.declared.Place.{Place}
 use Rattle.rules.specs.declared.Place.the-variants.{Refused as NoPlace}
-use Rattle.rules.specs.declared.Square.{Square}
-use Rattle.rules.specs.declared.Square.the-variants.{Refused as NoSquare}
 use Rattle.lane.specs.declared.reading.Reading.{Reading}
 use Rattle.lane.specs.declared.reading.Reading.the-variants.{Refused as NoReading}
 use Rattle.lane.specs.declared.reading.Squares.{Squares}
 use Rattle.lane.specs.declared.reading.Squares.the-variants.{Refused as NoSquares}
 use Rattle.lane.specs.declared.trilinear.Between.{Between}
 use Rattle.lane.specs.declared.trilinear.Between.the-variants.{Refused as NoEight}
-use Rattle.lane.specs.Numbers.{placeNumber, squareNumber, readingNumber, squaresNumber, betweenNumber}
+use Rattle.lane.specs.Numbers.{placeNumber, readingNumber, squaresNumber, betweenNumber}
 
 -- for any kind of answer: `refused n` refuses by n, and `number` is the number in an answer
 passed : {A : Type 0} (refused : ℕ → A) (number : A → ℕ) → ((n : ℕ) → number (refused n) ≡ n) → {asked found : A} {n k : ℕ} → found ≡ asked → found ≡ refused n → k ≡ number found → asked ≡ refused k
@@ -20,9 +18,6 @@ passed refused number own {n = n} e g h = sym e ∙ g ∙ ap refused (sym (h ∙
 
 pub place-passed : {asked found : Place} {n k : ℕ} → found ≡ asked → found ≡ NoPlace n → k ≡ placeNumber found → asked ≡ NoPlace k
 place-passed e g h = passed NoPlace placeNumber (λ n. refl) e g h
-
-pub square-passed : {asked found : Square} {n k : ℕ} → found ≡ asked → found ≡ NoSquare n → k ≡ squareNumber found → asked ≡ NoSquare k
-square-passed e g h = passed NoSquare squareNumber (λ n. refl) e g h
 
 pub reading-passed : {asked found : Reading} {n k : ℕ} → found ≡ asked → found ≡ NoReading n → k ≡ readingNumber found → asked ≡ NoReading k
 reading-passed e g h = passed NoReading readingNumber (λ n. refl) e g h

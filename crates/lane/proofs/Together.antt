@@ -7,7 +7,10 @@ use native.Mathlib.Omega.{arith}
 use lib.ListN.{length, getD}
 use lib.Ieee.{Float}
 use Rattle.rules.specs.declared.Lanes.{Lanes}
-use Rattle.rules.specs.declared.Corners.{Corners}
+use Rattle.rules.specs.declared.Wholes.{Wholes}
+use Rattle.rules.specs.declared.Mode.{Mode}
+use Rattle.rules.specs.declared.Plane.{Plane}
+use Rattle.rules.specs.declared.Axis.{Axis}
 use Rattle.rules.specs.declared.Place.{Place}
 use Rattle.rules.specs.declared.Place.the-variants.{At as AtPlace, Refused as NoPlace}
 use Rattle.rules.specs.declared.Square.{Square}
@@ -17,7 +20,7 @@ use Rattle.rules.specs.declared.Pixel.the-variants.{Of as OfPixel}
 use Rattle.rules.specs.declared.Value.the-variants.{Of as OfValue}
 use Rattle.rules.specs.Lanes.{fourPixels, fourValues}
 use Rattle.rules.specs.Places.{pixelAt, valueAt, rgbOf, opacityOf}
-use Rattle.rules.specs.Bilinear.{squarePixel, squareValue, cornersRgb, cornersAlpha}
+use Rattle.rules.specs.Bilinear.{thenSquare, cornersOf, squareAt, squarePixel, squareValue, cornersRgb, cornersAlpha, bilinearRgb, bilinearAlpha}
 use Rattle.rules.specs.Cubemap.{andPixel, lerpRgb}
 use Rattle.lane.specs.declared.reading.Four.{Four}
 use Rattle.lane.specs.declared.reading.FourCorners.{FourCorners}
@@ -26,11 +29,30 @@ use Rattle.lane.specs.declared.reading.Reading.{Reading}
 use Rattle.lane.specs.declared.trilinear.Eight.{Eight}
 use Rattle.lane.specs.declared.trilinear.Between.the-variants.{At as AtEight, Refused as NoEight}
 use Rattle.lane.specs.declared.reading.Squares.the-variants.{At as AtSquares, Refused as NoSquares}
-use Rattle.lane.specs.Held.{Within}
+use Rattle.places.specs.Stands.{axesOf}
+use Rattle.lane.specs.Held.{Held}
 use Rattle.lane.specs.Cubes.{betweenOf, betweenColour, lerpedRgb}
-use Rattle.lane.specs.Reading.{readingOf, squaresOf, Inside, AllWithin, readRgb, readAlpha, blendedRgb, blendedAlpha, readingColour, readingAlpha, squaresColour, squaresAlpha}
+use Rattle.lane.specs.Reading.{readingOf, cornersOn, besideOf, squaresOf, squaresOn, squaresAt, Inside, AllWithin, readRgb, readAlpha, blendedRgb, blendedAlpha, readingColour, readingAlpha, squaresColour, squaresAlpha}
+use Rattle.lane.proofs.Holding.{place-below}
 
 -- ---- the answer
+
+-- a lane of a bilinear lookup is the reading of its four places, with its weights
+abbrev squareBy : Reading → Float → Float → Square
+squareBy (At f) fx fy = AtSquare (record { p00 = f .a; p10 = f .b; p01 = f .c; p11 = f .d; fx = fx; fy = fy })
+squareBy (Refused n) fx fy = NoSquare n
+
+four-square : (p q r s : Place) (fx fy : Float) → thenSquare p (λ a. thenSquare q (λ b. thenSquare r (λ c. thenSquare s (λ d. AtSquare (record { p00 = a; p10 = b; p01 = c; p11 = d; fx = fx; fy = fy }))))) ≡ squareBy (readingOf p q r s) fx fy
+unfolding readingOf
+four-square (NoPlace n) q r s fx fy = refl
+four-square (AtPlace a) (NoPlace n) r s fx fy = refl
+four-square (AtPlace a) (AtPlace b) (NoPlace n) s fx fy = refl
+four-square (AtPlace a) (AtPlace b) (AtPlace c) (NoPlace n) fx fy = refl
+four-square (AtPlace a) (AtPlace b) (AtPlace c) (AtPlace d) fx fy = refl
+
+corners-square : (p : Plane) (f : ℕ) (x y : Axis) → cornersOf p f x y ≡ squareBy (cornersOn p f (x .first) (x .second) (y .first) (y .second)) (x .part) (y .part)
+unfolding cornersOf cornersOn
+corners-square p f x y = four-square _ _ _ _ _ _
 
 module _ (l : List ℕ) where
   -- one lane of a lookup that reads one texel
@@ -53,21 +75,32 @@ module _ (l : List ℕ) where
   read-values (AtPlace a) (AtPlace b) (AtPlace c) (NoPlace n) = refl
   read-values (AtPlace a) (AtPlace b) (AtPlace c) (AtPlace d) = refl
 
-  pub blend-pixels : (p q r s : Square) → fourPixels (squarePixel p (cornersRgb l)) (squarePixel q (cornersRgb l)) (squarePixel r (cornersRgb l)) (squarePixel s (cornersRgb l)) ≡ squaresColour (squaresOf p q r s) (blendedRgb l)
+  -- one lane of a bilinear lookup, from its places
+  blend-pixels : (p q r s : Reading) (fx fy : Lanes) → fourPixels (squarePixel (squareBy p (fx .a) (fy .a)) (cornersRgb l)) (squarePixel (squareBy q (fx .b) (fy .b)) (cornersRgb l)) (squarePixel (squareBy r (fx .c) (fy .c)) (cornersRgb l)) (squarePixel (squareBy s (fx .d) (fy .d)) (cornersRgb l)) ≡ squaresColour (squaresOf p q r s fx fy) (blendedRgb l)
   unfolding fourPixels squaresOf blendedRgb
-  blend-pixels (NoSquare n) q r s = refl
-  blend-pixels (AtSquare a) (NoSquare n) r s = refl
-  blend-pixels (AtSquare a) (AtSquare b) (NoSquare n) s = refl
-  blend-pixels (AtSquare a) (AtSquare b) (AtSquare c) (NoSquare n) = refl
-  blend-pixels (AtSquare a) (AtSquare b) (AtSquare c) (AtSquare d) = refl
+  blend-pixels (Refused n) q r s fx fy = refl
+  blend-pixels (At a) (Refused n) r s fx fy = refl
+  blend-pixels (At a) (At b) (Refused n) s fx fy = refl
+  blend-pixels (At a) (At b) (At c) (Refused n) fx fy = refl
+  blend-pixels (At a) (At b) (At c) (At d) fx fy = refl
 
-  pub blend-values : (p q r s : Square) → fourValues (squareValue p (cornersAlpha l)) (squareValue q (cornersAlpha l)) (squareValue r (cornersAlpha l)) (squareValue s (cornersAlpha l)) ≡ squaresAlpha (squaresOf p q r s) (blendedAlpha l)
+  blend-values : (p q r s : Reading) (fx fy : Lanes) → fourValues (squareValue (squareBy p (fx .a) (fy .a)) (cornersAlpha l)) (squareValue (squareBy q (fx .b) (fy .b)) (cornersAlpha l)) (squareValue (squareBy r (fx .c) (fy .c)) (cornersAlpha l)) (squareValue (squareBy s (fx .d) (fy .d)) (cornersAlpha l)) ≡ squaresAlpha (squaresOf p q r s fx fy) (blendedAlpha l)
   unfolding fourValues squaresOf blendedAlpha
-  blend-values (NoSquare n) q r s = refl
-  blend-values (AtSquare a) (NoSquare n) r s = refl
-  blend-values (AtSquare a) (AtSquare b) (NoSquare n) s = refl
-  blend-values (AtSquare a) (AtSquare b) (AtSquare c) (NoSquare n) = refl
-  blend-values (AtSquare a) (AtSquare b) (AtSquare c) (AtSquare d) = refl
+  blend-values (Refused n) q r s fx fy = refl
+  blend-values (At a) (Refused n) r s fx fy = refl
+  blend-values (At a) (At b) (Refused n) s fx fy = refl
+  blend-values (At a) (At b) (At c) (Refused n) fx fy = refl
+  blend-values (At a) (At b) (At c) (At d) fx fy = refl
+
+  pub bilinear-pixels : (p : Plane) (f : Wholes) (s t : Mode) (u v : Lanes) → fourPixels (bilinearRgb l p (f .a) s t (u .a) (v .a)) (bilinearRgb l p (f .b) s t (u .b) (v .b)) (bilinearRgb l p (f .c) s t (u .c) (v .c)) (bilinearRgb l p (f .d) s t (u .d) (v .d)) ≡ squaresColour (squaresAt p f s t u v) (blendedRgb l)
+  unfolding bilinearRgb squareAt squaresAt squaresOn axesOf
+  bilinear-pixels p f s t u v =
+      rw (corners-square p (f .a) _ _, corners-square p (f .b) _ _, corners-square p (f .c) _ _, corners-square p (f .d) _ _)
+      (blend-pixels _ _ _ _ _ _)
+
+  pub bilinear-values : (p : Plane) (s t : Mode) (u v : Lanes) → fourValues (bilinearAlpha l p s t (u .a) (v .a)) (bilinearAlpha l p s t (u .b) (v .b)) (bilinearAlpha l p s t (u .c) (v .c)) (bilinearAlpha l p s t (u .d) (v .d)) ≡ squaresAlpha (squaresAt p (record { a = 0; b = 0; c = 0; d = 0 }) s t u v) (blendedAlpha l)
+  unfolding bilinearAlpha squareAt squaresAt squaresOn axesOf
+  bilinear-values p s t u v = rw (corners-square p 0 _ _, corners-square p 0 _ _, corners-square p 0 _ _, corners-square p 0 _ _) (blend-values _ _ _ _ _ _)
 
   -- one lane of a lookup that reads two texels
   abbrev pub lerped : Place → Place → Float → Pixel
@@ -110,19 +143,51 @@ reading-inside (AtPlace i) (NoPlace n) r s {f} a b c d e = absurd (no-reading n 
 reading-inside (AtPlace i) (AtPlace j) (NoPlace n) s {f} a b c d e = absurd (no-reading n f e)
 reading-inside (AtPlace i) (AtPlace j) (AtPlace k) (NoPlace n) {f} a b c d e = absurd (no-reading n f e)
 
--- the four places of a lane that is given are
-abbrev pub SquareBelow : List ℕ → Square → Type 0
-SquareBelow l p = (c : Corners) → p ≡ AtSquare c → Within l c
+-- and so are the four places of a lane of a bilinear lookup
+corners-inside : {l : List ℕ} {p : Plane} (f x0 x1 y0 y1 : ℕ) {g : Four} → Held l p → cornersOn p f x0 x1 y0 y1 ≡ At g → Inside l g
+unfolding cornersOn
+corners-inside f x0 x1 y0 y1 held e =
+    reading-inside _ _ _ _
+    (λ i z. place-below f x0 y0 held z)
+    (λ i z. place-below f x1 y0 held z)
+    (λ i z. place-below f x0 y1 held z)
+    (λ i z. place-below f x1 y1 held z)
+    e
 
-pub squares-within : {l : List ℕ} (p q r s : Square) {f : FourCorners} → SquareBelow l p → SquareBelow l q → SquareBelow l r → SquareBelow l s → squaresOf p q r s ≡ AtSquares f → AllWithin l f
+-- a lane that is given reads texels
+abbrev Reads : List ℕ → Reading → Type 0
+Reads l p = (g : Four) → p ≡ At g → Inside l g
+
+all-within : {l : List ℕ} (p q r s : Reading) (fx fy : Lanes) {f : FourCorners} → Reads l p → Reads l q → Reads l r → Reads l s → squaresOf p q r s fx fy ≡ AtSquares f → AllWithin l f
 unfolding squaresOf
-squares-within {l} (AtSquare i) (AtSquare j) (AtSquare k) (AtSquare m) {f} a b c d e =
-    subst (λ (x : FourCorners). AllWithin l x) (let same : record { a = i; b = j; c = k; d = m } ≡ f = cc in same)
-    (record { in-a = a i refl; in-b = b j refl; in-c = c k refl; in-d = d m refl })
-squares-within (NoSquare n) q r s {f} a b c d e = absurd (no-squares n f e)
-squares-within (AtSquare i) (NoSquare n) r s {f} a b c d e = absurd (no-squares n f e)
-squares-within (AtSquare i) (AtSquare j) (NoSquare n) s {f} a b c d e = absurd (no-squares n f e)
-squares-within (AtSquare i) (AtSquare j) (AtSquare k) (NoSquare n) {f} a b c d e = absurd (no-squares n f e)
+all-within {l} (At i) (At j) (At k) (At m) fx fy {f} a b c d e =
+    let p = a i refl in
+    let q = b j refl in
+    let r = c k refl in
+    let s = d m refl in
+    subst (λ (x : FourCorners). AllWithin l x) (let same : besideOf i j k m fx fy ≡ f = cc in same)
+    (record {
+      in00 = record { in-a = p .in-a; in-b = q .in-a; in-c = r .in-a; in-d = s .in-a };
+      in10 = record { in-a = p .in-b; in-b = q .in-b; in-c = r .in-b; in-d = s .in-b };
+      in01 = record { in-a = p .in-c; in-b = q .in-c; in-c = r .in-c; in-d = s .in-c };
+      in11 = record { in-a = p .in-d; in-b = q .in-d; in-c = r .in-d; in-d = s .in-d };
+    })
+all-within (Refused n) q r s fx fy {f} a b c d e = absurd (no-squares n f e)
+all-within (At i) (Refused n) r s fx fy {f} a b c d e = absurd (no-squares n f e)
+all-within (At i) (At j) (Refused n) s fx fy {f} a b c d e = absurd (no-squares n f e)
+all-within (At i) (At j) (At k) (Refused n) fx fy {f} a b c d e = absurd (no-squares n f e)
+
+pub squares-within : {l : List ℕ} {p : Plane} (f : Wholes) (s t : Mode) (u v : Lanes) {g : FourCorners} → Held l p → squaresAt p f s t u v ≡ AtSquares g → AllWithin l g
+unfolding squaresAt squaresOn
+squares-within {l} {p} f s t u v held e =
+    let x = axesOf s u (p .width) in
+    let y = axesOf t v (p .height) in
+    all-within _ _ _ _ _ _
+    (λ g z. corners-inside (f .a) (x .first .a) (x .second .a) (y .first .a) (y .second .a) held z)
+    (λ g z. corners-inside (f .b) (x .first .b) (x .second .b) (y .first .b) (y .second .b) held z)
+    (λ g z. corners-inside (f .c) (x .first .c) (x .second .c) (y .first .c) (y .second .c) held z)
+    (λ g z. corners-inside (f .d) (x .first .d) (x .second .d) (y .first .d) (y .second .d) held z)
+    e
 
 -- the places of a trilinear lookup that is given
 pub between-given : (p q : Reading) {e : Eight} → betweenOf p q ≡ AtEight e → (p ≡ At (e .ab)) × (q ≡ At (e .cd))

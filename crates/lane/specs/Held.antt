@@ -1,9 +1,8 @@
 -- What a level must be for its texels to be read. Definitions only.
 use mathlib.Core.List.{List}
-use Prim.Native.Nat.{ℕ, _+_, _*_, _≤_, _<_}
+use Prim.Native.Nat.{ℕ, _+_, _*_, _≤_}
 use lib.ListN.{length}
 use Rattle.rules.specs.declared.Plane.{Plane}
-use Rattle.rules.specs.declared.Corners.{Corners}
 
 -- up to six faces of sides 1 to 4,096, in a chain that starts as far in as any chain goes
 pub record Sized (p : Plane) : Type 0 where
@@ -18,10 +17,3 @@ pub record Sized (p : Plane) : Type 0 where
 pub record Held (l : List ℕ) (p : Plane) : Type 0 where
   pub sized : Sized p
   pub room : p .start + p .faces * p .height * p .width ≤ length l
-
--- the four places of a bilinear lookup lie within the texels l
-pub record Within (l : List ℕ) (c : Corners) : Type 0 where
-  pub in00 : c .p00 < length l
-  pub in10 : c .p10 < length l
-  pub in01 : c .p01 < length l
-  pub in11 : c .p11 < length l

@@ -1,53 +1,45 @@
 // The four places of a bilinear lookup.
-use crate::number::place_number;
+use crate::reading::Reading;
+use crate::reading::all_places;
+use places::axis::Axes;
+use places::choice::all_four;
+use places::choice::both;
 use places::place::place;
-use rules::Axis;
-use rules::Corners;
-use rules::Place;
 use rules::Plane;
-use rules::Square;
+use rules::Wholes;
 ghost use mathlib.Core.Path.{_≡_};
-ghost use Rattle.rules.specs.Bilinear.{cornersOf};
 ghost use Rattle.lane.specs.Held.{Sized};
+ghost use Rattle.lane.specs.Reading.{onFace, onFaces, cornersOn};
 
-// One lane's texel numbers along a side, and how far it lies above.
-pub fn axis(first: u32, second: u32, part: f32) -> Axis
-    ensures { λ r. ⌜ r ≡ record { first = first; second = second; part = part } ⌝ }
+// Whether the four texels of a lane lie on its face.
+fn on_face(p: Plane, face: u32, x0: u32, x1: u32, y0: u32, y1: u32) -> bool
+    ensures { λ r. ⌜ r ≡ onFace p face x0 x1 y0 y1 ⌝ }
 {
-    Axis {
-        first: first as usize,
-        second: second as usize,
-        part,
-    }
+    let first = both((x0 as usize) < p.width, (y0 as usize) < p.height);
+    let second = both((x1 as usize) < p.width, (y1 as usize) < p.height);
+    both((face as usize) < p.faces, both(first, second))
 }
 
-// The places p00, p10, p01, p11 of a face, and the weights.
-pub fn corners(p: Plane, face: usize, x: Axis, y: Axis) -> Square
-    requires { ⌜ Sized p ⌝ }
-    ensures { λ r. ⌜ r ≡ cornersOf p face x y ⌝ }
+// Whether those of all lanes do: asked before the places are worked out, so that compiled code tests each number once.
+pub fn on_faces(p: Plane, faces: Wholes, x: Axes, y: Axes) -> bool
+    ensures { λ r. ⌜ r ≡ onFaces p faces x y ⌝ }
 {
-    let found00 = place(p, face, x.first, y.first);
-    let Place::At(p00) = found00 else {
-        return Square::Refused(place_number(found00));
-    };
-    let found10 = place(p, face, x.second, y.first);
-    let Place::At(p10) = found10 else {
-        return Square::Refused(place_number(found10));
-    };
-    let found01 = place(p, face, x.first, y.second);
-    let Place::At(p01) = found01 else {
-        return Square::Refused(place_number(found01));
-    };
-    let found11 = place(p, face, x.second, y.second);
-    let Place::At(p11) = found11 else {
-        return Square::Refused(place_number(found11));
-    };
-    Square::At(Corners {
-        p00,
-        p10,
-        p01,
-        p11,
-        fx: x.part,
-        fy: y.part,
-    })
+    all_four(
+        on_face(p, faces.a, x.first.a, x.second.a, y.first.a, y.second.a),
+        on_face(p, faces.b, x.first.b, x.second.b, y.first.b, y.second.b),
+        on_face(p, faces.c, x.first.c, x.second.c, y.first.c, y.second.c),
+        on_face(p, faces.d, x.first.d, x.second.d, y.first.d, y.second.d),
+    )
+}
+
+// The places p00, p10, p01, p11 of a lane.
+pub fn corners(p: Plane, face: u32, x0: u32, x1: u32, y0: u32, y1: u32) -> Reading
+    requires { ⌜ Sized p ⌝ }
+    ensures { λ r. ⌜ r ≡ cornersOn p face x0 x1 y0 y1 ⌝ }
+{
+    let p00 = place(p, face as usize, x0 as usize, y0 as usize);
+    let p10 = place(p, face as usize, x1 as usize, y0 as usize);
+    let p01 = place(p, face as usize, x0 as usize, y1 as usize);
+    let p11 = place(p, face as usize, x1 as usize, y1 as usize);
+    all_places(p00, p10, p01, p11)
 }

@@ -3,9 +3,8 @@ use crate::reading::Reading;
 use crate::reading::Squares;
 use crate::trilinear::Between;
 use rules::Place;
-use rules::Square;
 ghost use mathlib.Core.Path.{_≡_};
-ghost use Rattle.lane.specs.Numbers.{placeNumber, squareNumber, readingNumber, squaresNumber, betweenNumber};
+ghost use Rattle.lane.specs.Numbers.{placeNumber, readingNumber, squaresNumber, betweenNumber};
 
 // Of a place.
 pub fn place_number(found: Place) -> u32
@@ -14,16 +13,6 @@ pub fn place_number(found: Place) -> u32
     match found {
         Place::At(_) => 0,
         Place::Refused(n) => n,
-    }
-}
-
-// Of the four places of a bilinear lookup.
-pub fn square_number(found: Square) -> u32
-    ensures { λ r. ⌜ r ≡ squareNumber found ⌝ }
-{
-    match found {
-        Square::At(_) => 0,
-        Square::Refused(n) => n,
     }
 }
 

@@ -1,9 +1,8 @@
 // The places of four lanes, before a texel is read: all of them, or the first refusal.
 use crate::number::place_number;
-use crate::number::square_number;
-use rules::Corners;
+use crate::number::reading_number;
+use rules::Lanes;
 use rules::Place;
-use rules::Square;
 ghost use mathlib.Core.Path.{_≡_};
 ghost use Rattle.lane.specs.Reading.{readingOf, squaresOf};
 
@@ -20,12 +19,14 @@ pub enum Reading {
     Refused(u32),
 }
 
-// The places of four bilinear lookups.
+// The places of four bilinear lookups and their weights, the lanes side by side.
 pub struct FourCorners {
-    pub a: Corners,
-    pub b: Corners,
-    pub c: Corners,
-    pub d: Corners,
+    pub p00: Four,
+    pub p10: Four,
+    pub p01: Four,
+    pub p11: Four,
+    pub fx: Lanes,
+    pub fy: Lanes,
 }
 
 pub enum Squares {
@@ -59,21 +60,28 @@ pub fn all_places(p: Place, q: Place, r: Place, s: Place) -> Reading
     Reading::At(Four { a, b, c, d })
 }
 
-// The places of four bilinear lookups, one after the other.
-pub fn all_squares(p: Square, q: Square, r: Square, s: Square) -> Squares
-    ensures { λ x. ⌜ x ≡ squaresOf p q r s ⌝ }
+// The places of four bilinear lookups, lane after lane, each lane's p00, p10, p01 and p11; and the weights.
+pub fn all_squares(p: Reading, q: Reading, r: Reading, s: Reading, fx: Lanes, fy: Lanes) -> Squares
+    ensures { λ x. ⌜ x ≡ squaresOf p q r s fx fy ⌝ }
 {
-    let Square::At(a) = p else {
-        return Squares::Refused(square_number(p));
+    let Reading::At(a) = p else {
+        return Squares::Refused(reading_number(p));
     };
-    let Square::At(b) = q else {
-        return Squares::Refused(square_number(q));
+    let Reading::At(b) = q else {
+        return Squares::Refused(reading_number(q));
     };
-    let Square::At(c) = r else {
-        return Squares::Refused(square_number(r));
+    let Reading::At(c) = r else {
+        return Squares::Refused(reading_number(r));
     };
-    let Square::At(d) = s else {
-        return Squares::Refused(square_number(s));
+    let Reading::At(d) = s else {
+        return Squares::Refused(reading_number(s));
     };
-    Squares::At(FourCorners { a, b, c, d })
+    Squares::At(FourCorners {
+        p00: as_four(a.a, b.a, c.a, d.a),
+        p10: as_four(a.b, b.b, c.b, d.b),
+        p01: as_four(a.c, b.c, c.c, d.c),
+        p11: as_four(a.d, b.d, c.d, d.d),
+        fx,
+        fy,
+    })
 }

@@ -3,15 +3,14 @@ use mathlib.Core.Path.{_≡_, sym, ap, _∙_}
 use native.Mathlib.Omega.{arith}
 use lib.ListN.{length}
 use Rattle.rules.specs.declared.Alpha.the-variants.{Of}
-use Rattle.rules.specs.Bilinear.{squareAt, bilinearAlpha}
 use Rattle.rules.specs.Answers.{bilinearAlphaAnswer}
 use Rattle.rules.proofs.Bounds.{taken-top}
 use Rattle.rules.proofs.RefusingLookups.{BilinearAlpha, bilinear-alpha-facts}
 use Rattle.lane.specs.Held.{Held}
-use Rattle.lane.specs.Reading.{squaresOf, squaresAlpha, blendedAlpha}
-use Rattle.lane.proofs.Holding.{plane-held, square-within}
+use Rattle.lane.specs.Reading.{squaresAt, squaresAlpha, blendedAlpha}
+use Rattle.lane.proofs.Holding.{plane-held}
 use Rattle.lane.proofs.Passing.{squares-passed}
-use Rattle.lane.proofs.Together.{blend-values, squares-within}
+use Rattle.lane.proofs.Together.{bilinear-values, squares-within}
 use Rattle.lookups.proofs.Passing.{refuses, gives}
 use borrow.Author.Needs.{needs}
 use Rattle.lookups.proofs.bilinear.sample_bilinear_alpha.Statement.{statement}
@@ -24,12 +23,12 @@ facts c = bilinear-alpha-facts _ _ _ _ _ _ _ _ (sym (c .before .before .bilinear
 held : (c : tie.After-mode-of2) → let a = c .before .before .before .before .before .before .before .before .before .args in Held (a .texels .now) (c .before .before .plane .result)
 held c = let f = facts (c .before .before .before .before) in plane-held _ (c .before .before .plane .ensures) (f .chained) (f .blended .below)
 
-answered : (c : tie.After-mode-of2) → let a = c .before .before .before .before .before .before .before .before .before .args in let p = c .before .before .plane .result in let s = c .before .mode-of .result in let t = c .mode-of2 .result in bilinearAlphaAnswer (a .kind) (a .width) (a .height) (a .texels .now) (a .sampler) (a .u) (a .v) (a .level) ≡ squaresAlpha (squaresOf (squareAt p 0 s t (a .u .a) (a .v .a)) (squareAt p 0 s t (a .u .b) (a .v .b)) (squareAt p 0 s t (a .u .c) (a .v .c)) (squareAt p 0 s t (a .u .d) (a .v .d))) (blendedAlpha (a .texels .now))
-unfolding bilinearAlphaAnswer bilinearAlpha
+answered : (c : tie.After-mode-of2) → let a = c .before .before .before .before .before .before .before .before .before .args in let p = c .before .before .plane .result in let s = c .before .mode-of .result in let t = c .mode-of2 .result in bilinearAlphaAnswer (a .kind) (a .width) (a .height) (a .texels .now) (a .sampler) (a .u) (a .v) (a .level) ≡ squaresAlpha (squaresAt p (record { a = 0; b = 0; c = 0; d = 0 }) s t (a .u) (a .v)) (blendedAlpha (a .texels .now))
+unfolding bilinearAlphaAnswer
 answered c =
     let p = c .before .before in
     let e = p .before .before in
-    rw (p .plane .ensures, c .before .mode-of .ensures, c .mode-of2 .ensures) (gives _ _ (e .before .before .bilinear-alpha-refusal .ensures .0) (e .if1 .left) ∙ blend-values _ _ _ _ _)
+    rw (p .plane .ensures, c .before .mode-of .ensures, c .mode-of2 .ensures) (gives _ _ (e .before .before .bilinear-alpha-refusal .ensures .0) (e .if1 .left) ∙ bilinear-values _ _ _ _ _ _)
 
 slice-aggregate-bilinear-alpha-refusal : tie.Need-slice-aggregate-bilinear-alpha-refusal
 slice-aggregate-bilinear-alpha-refusal c = search needs
@@ -77,12 +76,7 @@ squares-alpha-requires c κs = let k = c .before .before .before in
     let a = m .before .before .before .before .before .before .before .before .before .args in
     let s = m .before .mode-of .result in
     let t = m .mode-of2 .result in
-    squares-within _ _ _ _
-    (λ i z. square-within 0 s t (a .u .a) (a .v .a) (held m) z)
-    (λ i z. square-within 0 s t (a .u .b) (a .v .b) (held m) z)
-    (λ i z. square-within 0 s t (a .u .c) (a .v .c) (held m) z)
-    (λ i z. square-within 0 s t (a .u .d) (a .v .d) (held m) z)
-    (sym (k .squares .ensures) ∙ c .before .found .given .1)
+    squares-within (record { a = 0; b = 0; c = 0; d = 0 }) s t (a .u) (a .v) (held m) (sym (k .squares .ensures) ∙ c .before .found .given .1)
 
 returns-3 : tie.Need-returns-3
 returns-3 c = let f = c .before .before in
