@@ -2,8 +2,6 @@
 use Prim.Native.Nat.{ℕ}
 use Rattle.rules.specs.declared.Place.{Place}
 use Rattle.rules.specs.declared.Place.the-variants.{At as AtPlace, Refused as NoPlace}
-use Rattle.rules.specs.declared.Square.{Square}
-use Rattle.rules.specs.declared.Square.the-variants.{At as AtSquare, Refused as NoSquare}
 use Rattle.lane.specs.declared.reading.Reading.{Reading}
 use Rattle.lane.specs.declared.reading.Reading.the-variants.{At as AtReading, Refused as NoReading}
 use Rattle.lane.specs.declared.reading.Squares.{Squares}
@@ -14,10 +12,6 @@ use Rattle.lane.specs.declared.trilinear.Between.the-variants.{At as AtE
 abbrev pub placeNumber : Place → ℕ
 placeNumber (AtPlace i) = 0
 placeNumber (NoPlace n) = n
-
-abbrev pub squareNumber : Square → ℕ
-squareNumber (AtSquare c) = 0
-squareNumber (NoSquare n) = n
 
 abbrev pub readingNumber : Reading → ℕ
 readingNumber (AtReading f) = 0
