@@ -37,18 +37,18 @@ unfoldable pub readingOf : Place → Place → Place → Place → Reading
 readingOf p q r s =
     thenReading p (λ a. thenReading q (λ b. thenReading r (λ c. thenReading s (λ d. At (record { a = a; b = b; c = c; d = d })))))
 
--- the four texels of a lane lie on its face
-unfoldable pub onFace : Plane → ℕ → ℕ → ℕ → ℕ → ℕ → Bool
-onFace p f x0 x1 y0 y1 =
+-- the four texels of a lane lie inside its level
+unfoldable pub squareInside : Plane → ℕ → ℕ → ℕ → ℕ → ℕ → Bool
+squareInside p f x0 x1 y0 y1 =
     ltb f (p .faces) && ((ltb x0 (p .width) && ltb y0 (p .height)) && (ltb x1 (p .width) && ltb y1 (p .height)))
 
 -- and those of all lanes
-unfoldable pub onFaces : Plane → Wholes → Axes → Axes → Bool
-onFaces p f x y =
-    onFace p (f .a) (x .first .a) (x .second .a) (y .first .a) (y .second .a)
-    && (onFace p (f .b) (x .first .b) (x .second .b) (y .first .b) (y .second .b)
-    && (onFace p (f .c) (x .first .c) (x .second .c) (y .first .c) (y .second .c)
-    && onFace p (f .d) (x .first .d) (x .second .d) (y .first .d) (y .second .d)))
+unfoldable pub squaresInside : Plane → Wholes → Axes → Axes → Bool
+squaresInside p f x y =
+    squareInside p (f .a) (x .first .a) (x .second .a) (y .first .a) (y .second .a)
+    && (squareInside p (f .b) (x .first .b) (x .second .b) (y .first .b) (y .second .b)
+    && (squareInside p (f .c) (x .first .c) (x .second .c) (y .first .c) (y .second .c)
+    && squareInside p (f .d) (x .first .d) (x .second .d) (y .first .d) (y .second .d)))
 
 -- a lane's places p00, p10, p01, p11
 unfoldable pub cornersOn : Plane → ℕ → ℕ → ℕ → ℕ → ℕ → Reading

@@ -1,6 +1,6 @@
 // The bilinear lookup: the four texels around a coordinate, blended by the two weights.
 use crate::corners::corners;
-use crate::corners::on_faces;
+use crate::corners::squares_inside;
 use crate::pixel::opacity_four;
 use crate::pixel::rgb_four;
 use crate::reading::FourCorners;
@@ -38,7 +38,7 @@ pub fn squares(p: Plane, faces: Wholes, s: Mode, t: Mode, u: Lanes, v: Lanes) ->
 {
     let x = four_axes(s, u, p.width);
     let y = four_axes(t, v, p.height);
-    if !on_faces(p, faces, x, y) {
+    if !squares_inside(p, faces, x, y) {
         return Squares::Refused(9);
     }
     let a = corners(p, faces.a, x.first.a, x.second.a, y.first.a, y.second.a);

@@ -9,11 +9,11 @@ use rules::Plane;
 use rules::Wholes;
 ghost use mathlib.Core.Path.{_≡_};
 ghost use Rattle.lane.specs.Held.{Sized};
-ghost use Rattle.lane.specs.Reading.{onFace, onFaces, cornersOn};
+ghost use Rattle.lane.specs.Reading.{squareInside, squaresInside, cornersOn};
 
-// Whether the four texels of a lane lie on its face.
-fn on_face(p: Plane, face: u32, x0: u32, x1: u32, y0: u32, y1: u32) -> bool
-    ensures { λ r. ⌜ r ≡ onFace p face x0 x1 y0 y1 ⌝ }
+// Whether the four texels of a lane lie inside the level.
+fn square_inside(p: Plane, face: u32, x0: u32, x1: u32, y0: u32, y1: u32) -> bool
+    ensures { λ r. ⌜ r ≡ squareInside p face x0 x1 y0 y1 ⌝ }
 {
     let first = both((x0 as usize) < p.width, (y0 as usize) < p.height);
     let second = both((x1 as usize) < p.width, (y1 as usize) < p.height);
@@ -21,14 +21,14 @@ fn on_face(p: Plane, face: u32, x0: u32, x1: u32, y0: u32, y1: u32) -> bool
 }
 
 // Whether those of all lanes do: asked before the places are worked out, so that compiled code tests each number once.
-pub fn on_faces(p: Plane, faces: Wholes, x: Axes, y: Axes) -> bool
-    ensures { λ r. ⌜ r ≡ onFaces p faces x y ⌝ }
+pub fn squares_inside(p: Plane, faces: Wholes, x: Axes, y: Axes) -> bool
+    ensures { λ r. ⌜ r ≡ squaresInside p faces x y ⌝ }
 {
     all_four(
-        on_face(p, faces.a, x.first.a, x.second.a, y.first.a, y.second.a),
-        on_face(p, faces.b, x.first.b, x.second.b, y.first.b, y.second.b),
-        on_face(p, faces.c, x.first.c, x.second.c, y.first.c, y.second.c),
-        on_face(p, faces.d, x.first.d, x.second.d, y.first.d, y.second.d),
+        square_inside(p, faces.a, x.first.a, x.second.a, y.first.a, y.second.a),
+        square_inside(p, faces.b, x.first.b, x.second.b, y.first.b, y.second.b),
+        square_inside(p, faces.c, x.first.c, x.second.c, y.first.c, y.second.c),
+        square_inside(p, faces.d, x.first.d, x.second.d, y.first.d, y.second.d),
     )
 }
 

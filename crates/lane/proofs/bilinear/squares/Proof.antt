@@ -15,7 +15,7 @@ use Rattle.lane.specs.declared.reading.Four.{Four}
 use Rattle.lane.specs.declared.reading.Reading.{Reading}
 use Rattle.lane.specs.declared.reading.Reading.the-variants.{At, Refused}
 use Rattle.lane.specs.declared.reading.Squares.the-variants.{At as AtSquares, Refused as NoSquares}
-use Rattle.lane.specs.Reading.{readingOf, besideOf, onFace, onFaces, cornersOn, squaresOf, squaresOn, squaresAt}
+use Rattle.lane.specs.Reading.{readingOf, besideOf, squareInside, squaresInside, cornersOn, squaresOf, squaresOn, squaresAt}
 use borrow.Author.Needs.{needs}
 use Rattle.lane.proofs.bilinear.squares.Statement.{statement}
 use Rattle.lane.proofs.bilinear.squares.Tie as tie
@@ -35,8 +35,8 @@ record Lane (r : Reading) (test : Bool) : Type 0 where
   at : Four
   is : r ≡ cond test (At at) (Refused 9)
 
-lane : (p : Plane) (f x0 x1 y0 y1 : ℕ) → Lane (cornersOn p f x0 x1 y0 y1) (onFace p f x0 x1 y0 y1)
-unfolding onFace cornersOn placeOf
+lane : (p : Plane) (f x0 x1 y0 y1 : ℕ) → Lane (cornersOn p f x0 x1 y0 y1) (squareInside p f x0 x1 y0 y1)
+unfolding squareInside cornersOn placeOf
 lane p f x0 x1 y0 y1 =
     record {
       at = _;
@@ -56,9 +56,9 @@ refused : {p q r s : Reading} {a b c d : Bool} (fx fy : Lanes) → Lane p a → 
 refused {a = a} {b = b} {c = c} {d = d} fx fy i j k m e =
     rw (i .is, j .is, k .is, m .is, lanes a b c d (i .at) (j .at) (k .at) (m .at) fx fy, e)
 
-off-faces : (p : Plane) (f : Wholes) (x y : Axes) → onFaces p f x y ≡ false → squaresOn p f x y ≡ NoSquares 9
-unfolding onFaces squaresOn
-off-faces p f x y e =
+outside : (p : Plane) (f : Wholes) (x y : Axes) → squaresInside p f x y ≡ false → squaresOn p f x y ≡ NoSquares 9
+unfolding squaresInside squaresOn
+outside p f x y e =
     refused _ _
     (lane p (f .a) (x .first .a) (x .second .a) (y .first .a) (y .second .a))
     (lane p (f .b) (x .first .b) (x .second .b) (y .first .b) (y .second .b))
@@ -72,13 +72,13 @@ four-axes-requires c κs = search needs
 four-axes-requires-2 : tie.Need-four-axes-requires-2
 four-axes-requires-2 c κs = search needs
 
-on-faces-requires : tie.Need-on-faces-requires
-on-faces-requires c κs = search needs
+squares-inside-requires : tie.Need-squares-inside-requires
+squares-inside-requires c κs = search needs
 
 returns : tie.Need-returns
 unfolding squaresAt
 returns c = let y = c .before .before in
-    sym (rw (← y .before .four-axes .ensures, ← y .four-axes2 .ensures) (off-faces _ _ _ _ (sym (c .before .on-faces .ensures) ∙ not-true _ (c .if1 .taken))))
+    sym (rw (← y .before .four-axes .ensures, ← y .four-axes2 .ensures) (outside _ _ _ _ (sym (c .before .squares-inside .ensures) ∙ not-true _ (c .if1 .taken))))
 
 corners-requires : tie.Need-corners-requires
 corners-requires c κs = search needs
@@ -116,7 +116,7 @@ squares-spec =
     (tie.spec
     four-axes-requires
     four-axes-requires-2
-    on-faces-requires
+    squares-inside-requires
     returns
     corners-requires
     corners-requires-2

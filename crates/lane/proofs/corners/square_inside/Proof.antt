@@ -1,8 +1,8 @@
--- `lane::corners::on_face` meets its contract. Assumes nothing.
-use Rattle.lane.specs.Reading.{onFace}
+-- `lane::corners::square_inside` meets its contract. Assumes nothing.
+use Rattle.lane.specs.Reading.{squareInside}
 use borrow.Author.Needs.{needs}
-use Rattle.lane.proofs.corners.on_face.Statement.{statement}
-use Rattle.lane.proofs.corners.on_face.Tie as tie
+use Rattle.lane.proofs.corners.square_inside.Statement.{statement}
+use Rattle.lane.proofs.corners.square_inside.Tie as tie
 
 both-requires : tie.Need-both-requires
 both-requires c κs = search needs
@@ -17,10 +17,10 @@ both-requires-4 : tie.Need-both-requires-4
 both-requires-4 c κs = search needs
 
 returns : tie.Need-returns
-unfolding onFace
+unfolding squareInside
 returns c = let b = c .before .before .before in
     rw (c .both4 .ensures, c .before .both3 .ensures, b .before .before .before .both .ensures, b .both2 .ensures)
 
-pub on-face-spec : {M : Type 1} → statement M
-on-face-spec =
+pub square-inside-spec : {M : Type 1} → statement M
+square-inside-spec =
     tie.close (tie.spec both-requires both-requires-2 both-requires-3 both-requires-4 returns)
