@@ -86,8 +86,8 @@ slips! {
         }
     }
 
-    /// Code 0 as Repeat.
-    NotGivenRepeats { const NOT_GIVEN: Wrap = Wrap::Repeat; }
+    /// Code 0 as ClampToEdge.
+    NotGivenClamps { const NOT_GIVEN: Wrap = Wrap::ClampToEdge; }
 
     /// Repeat by the remainder of the magnitude.
     RepeatOfMagnitude { fn repeat(t: i64, d: i64) -> i64 { t.abs() % d } }

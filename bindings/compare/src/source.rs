@@ -31,10 +31,10 @@ fn texture_type(kind: u32) -> TextureType {
     }
 }
 
-/// The source's wrap mode of an accepted code; 0 = not given, ClampToEdge.
+/// The source's wrap mode of an accepted code; 0 = not given, Repeat.
 fn wrap_mode(code: u32) -> WrapMode {
     match code {
-        10497 => WrapMode::Repeat,
+        10497 | 0 => WrapMode::Repeat,
         33648 => WrapMode::MirroredRepeat,
         _ => WrapMode::ClampToEdge,
     }

@@ -12,6 +12,6 @@ pub fn mode_of(code: u32) -> Mode
     let found = wrap_code(code);
     match found {
         Wrap::By(mode) => mode,
-        Wrap::Refused(_) => Mode::Clamp,
+        Wrap::Refused(_) => Mode::Repeat,
     }
 }

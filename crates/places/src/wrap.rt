@@ -23,7 +23,7 @@ pub fn wrap_code(code: u32) -> Wrap
         10497 => Wrap::By(Mode::Repeat),
         33071 => Wrap::By(Mode::Clamp),
         33648 => Wrap::By(Mode::Mirror),
-        0 => Wrap::By(Mode::Clamp),
+        0 => Wrap::By(Mode::Repeat),
         _ => Wrap::Refused(4),
     }
 }

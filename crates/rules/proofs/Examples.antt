@@ -4,7 +4,7 @@ use mathlib.Core.Path.{_≡_, refl}
 use mathlib.Core.Bool.{true, false}
 use mathlib.Core.List.{[], _∷_}
 use Prim.Native.Nat.{ℕ, _+_, _*_}
-use lib.IntN.{pos}
+use lib.IntN.{pos, negsuc}
 use lib.Ieee.{neg, add, sub, mul, div, le, lt, ofBits, ofInt, toUnsigned}
 use Rattle.rules.specs.Kinds.{normal, cubemap, linear, facesOf, rgba}
 use Rattle.rules.specs.Sizes.{sideAt, halvings, log2, top, sizeAt, start, count}
@@ -14,7 +14,7 @@ use Rattle.rules.specs.View.{faceStart, faceView}
 use Rattle.rules.specs.Floats.{zero32, one32, magnitude}
 use Rattle.rules.specs.Reducing.{eachOf, meanByte, linearOf, normalByte, normalOf, reduceOf}
 use Rattle.rules.specs.Pictures.{chainOf, filledOf}
-use Rattle.rules.specs.Wrapping.{remainderOf, mirroredOf}
+use Rattle.rules.specs.Wrapping.{wrapCode, modeOf, remainderOf, mirroredOf, wrapOf}
 use Rattle.rules.specs.Faces.{signOf, oddOf, spotAt, spotOf}
 use Rattle.rules.specs.Refusals.{_orElse_, kindRefusal, sidesRefusal, bufferRefusal, levelRefusal, faceRefusal, noCubemapRefusal, cutRefusal, pictureRefusal, chainRefusal, viewRefusal, cutCallRefusal}
 use Rattle.rules.specs.Answers.{answer, chainLeaves, viewAnswer, cutLeaves}
@@ -142,6 +142,11 @@ byte-one = (refl, refl)
 mirrored-five : mirroredOf (pos 5) 4 ≡ 3
 unfolding mirroredOf remainderOf
 mirrored-five = refl
+
+-- a code that is not given is Repeat's: beyond the first texel of a side of 4 stands the last, beyond the last the first
+not-given-repeats : (wrapCode 0 ≡ wrapCode 10497) × (wrapOf (modeOf 0) (negsuc 0) 4 ≡ 3) × (wrapOf (modeOf 0) (pos 4) 4 ≡ 0)
+unfolding wrapCode wrapOf remainderOf
+not-given-repeats = (refl, refl, refl)
 
 -- X wins a tie against Y
 tie-to-x : spotOf one32 one32 zero32 .face ≡ 0

@@ -8,9 +8,9 @@ use Rattle.rules.specs.declared.Mode.the-variants.{Repeat, Clamp, Mirror
 use Rattle.rules.specs.declared.Wrap.{Wrap}
 use Rattle.rules.specs.declared.Wrap.the-variants.{By, Refused}
 
--- what code 0, not given, stands for
+-- what code 0, not given, stands for: glTF 2.0's default along both axes
 abbrev pub notGiven : Mode
-notGiven = Clamp
+notGiven = Repeat
 
 -- 10497 Repeat, 33071 ClampToEdge, 33648 MirroredRepeat, 0 not given; every other code is refused
 unfoldable pub wrapCode : ℕ → Wrap

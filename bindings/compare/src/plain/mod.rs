@@ -1,6 +1,6 @@
-//! Document 01 read plainly: every call of swathecold.h, refusals included, simple rather than fast.
+//! Document 01 read plainly, with document 02's changes: every call of swathecold.h, refusals included, simple rather than fast.
 //!
-//! It is written from the paper and the header alone. A call answers `Ok` with what 01 says it answers, or `Err` with
+//! It is written from the papers and the header alone. A call answers `Ok` with what 01 says it answers, or `Err` with
 //! the refusal number; where it refuses, no lent buffer has changed. The small rules that 01 states in one sentence
 //! each stand in `rules`, so that a deliberate slip can take the place of one of them.
 

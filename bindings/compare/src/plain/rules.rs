@@ -1,4 +1,5 @@
-//! The sentences of document 01 that each fix one small rule. A deliberate slip replaces one of them.
+//! The sentences of document 01 that each fix one small rule; document 02's, by its request, where one has taken their place. A
+//! deliberate slip replaces one of them.
 
 use super::curve::decoded_table;
 use super::wrap::Wrap;
@@ -19,8 +20,8 @@ pub trait Rules {
     /// Face places in faces (column, row), in layout order.
     const CROSS: [(u32, u32); 6] = [(2, 1), (0, 1), (1, 0), (1, 2), (1, 1), (3, 1)];
 
-    /// Wrap code 0 = not given, ClampToEdge.
-    const NOT_GIVEN: Wrap = Wrap::ClampToEdge;
+    /// T-01: wrap code 0, not given, means Repeat.
+    const NOT_GIVEN: Wrap = Wrap::Repeat;
 
     /// Level m has sides max(1, side shifted right by m).
     fn level_side(side: u32, m: u32) -> u32 {
@@ -194,7 +195,7 @@ pub fn sign(component: f32) -> f32 {
     }
 }
 
-/// The rules as document 01 states them.
+/// The rules as document 01 states them, with what document 02 has changed since.
 pub struct Document01;
 
 impl Rules for Document01 {}
