@@ -9,7 +9,7 @@
  *
  * kind:    0 SRGB, 1 Normal, 2 MetallicRoughness, 3 Cubemap, 4 Linear
  * texel:   32 bits, red in the top byte, then green, blue, alpha
- * wrap:    10497 Repeat, 33071 ClampToEdge, 33648 MirroredRepeat, 0 not given
+ * wrap:    10497 Repeat, 33071 ClampToEdge, 33648 MirroredRepeat, 0 not given: Repeat, glTF 2.0's default
  * refused: 1 kind, 2 side, 3 buffer too short, 4 wrap code, 5 coordinate, step or fractional level, 6 level, 7 direction,
  *          8 kind or face that the call does not take, 9 place outside its level, 10 cross, 11 cut
  */
@@ -57,7 +57,8 @@ uint32_t swathecold_sample4_alpha(uint32_t kind, uint32_t width, uint32_t height
                                   uint32_t wrap_s, uint32_t wrap_t,
                                   const float u[4], const float v[4], const float steps[4], float alpha[4]);
 
-/* Four colours blended from four texels each, of one level; faces are 0 but for a cubemap. */
+/* Four colours blended from four texels each, of one level; faces are 0 but for a cubemap. A cubemap's face is wrapped by itself:
+ * with 0 or 10497 it repeats across its own edge, with 33071 its edge is held. */
 uint32_t swathecold_sample_bilinear_rgb(uint32_t kind, uint32_t width, uint32_t height,
                                         const uint32_t *texels, size_t texels_len, uint32_t wrap_s, uint32_t wrap_t,
                                         const float u[4], const float v[4], uint32_t level, const uint32_t faces[4],

@@ -151,7 +151,8 @@ pub fn sample4_alpha(
     Ok(alpha)
 }
 
-/// Four colours, each blended from four texels of one level. `array_slice` is 0 in each lane but for a cubemap.
+/// Four colours, each blended from four texels of one level. `array_slice` is 0 in each lane but for a cubemap, whose faces are
+/// wrapped each by itself: a wrap that is not given repeats across the face's own edge, ClampToEdge holds it.
 /// Refusals: 1, 2, 3, 8, 4, 6, 5, 9.
 #[allow(clippy::too_many_arguments)]
 pub fn sample_bilinear_rgb(

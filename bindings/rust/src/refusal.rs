@@ -37,7 +37,7 @@ impl Refusal {
             1 => ("the kind is unknown", "use 0 to 4"),
             2 => ("a side of the picture is 0 or above 4096", "scale the picture to sides from 1 to 4096"),
             3 => ("a buffer is too short", "ask level_sizes for the chain's texel count and lend that many"),
-            4 => ("a wrap code is unknown", "use 10497, 33071, 33648, or 0 where the file gives none"),
+            4 => ("a wrap code is unknown", "use 10497, 33071, 33648, or 0, which is Repeat, where the file gives none"),
             5 => (
                 "a coordinate, step or fractional level is not finite, or a coordinate is beyond 2048",
                 "mend the lane that has it",

@@ -35,7 +35,7 @@ impl From<TextureType> for u32 {
 /// What happens to a texel number outside the side, by glTF's codes.
 #[derive(Clone, Copy, Debug, Default, PartialEq, Eq)]
 pub enum WrapMode {
-    /// The file gave none.
+    /// The file gave none: glTF 2.0's default along both axes, Repeat.
     #[default]
     NotGiven = 0,
     Repeat = 10497,
@@ -49,12 +49,26 @@ impl From<WrapMode> for u32 {
     }
 }
 
-/// The wrap codes along u and along v. The fields are numbers, as a file has them: an unknown one is refused by the call.
+/// The wrap codes along u and along v. The fields are numbers, as a file has them: an unknown one is refused by the call. The
+/// default is a file that gives none, along both axes.
 ///
 /// ```
 /// use swathecold::{Sampler, WrapMode};
 /// let sampler = Sampler::new(WrapMode::Repeat, WrapMode::ClampToEdge);
 /// assert_eq!(sampler, Sampler { wrap_s: 10497, wrap_t: 33071 });
+/// ```
+///
+/// A wrap that is not given is Repeat: beyond an edge stands the texel of the opposite one.
+///
+/// ```
+/// use swathecold::{Picture, Sampler, TextureType, WrapMode};
+/// let picture = Picture::new(TextureType::Linear, 2, 1, &[0x000000FF, 0xFF0000FF])?;
+/// let (u, v, steps) = ([-0.25, 0.25, 0.75, 1.25], [0.5; 4], [0.0; 4]);
+/// assert_eq!(picture.sample4_rgb(Sampler::default(), u, v, steps)?.x, [1.0, 0.0, 1.0, 0.0]);
+///
+/// let held = Sampler::new(WrapMode::ClampToEdge, WrapMode::ClampToEdge);
+/// assert_eq!(picture.sample4_rgb(held, u, v, steps)?.x, [0.0, 0.0, 1.0, 1.0]);
+/// # Ok::<(), swathecold::Refusal>(())
 /// ```
 #[derive(Clone, Copy, Debug, Default, PartialEq, Eq)]
 pub struct Sampler {

@@ -40,6 +40,12 @@ fn every_number_has_words() {
     assert_eq!(short, 3);
     let said = level_sizes(9u32, 1, 1, 0).unwrap_err().to_string();
     assert_eq!(said, "refused 1: the kind is unknown; use 0 to 4");
+    let code = Sampler { wrap_s: 1, ..Sampler::default() };
+    let said = sample4_rgb(4u32, 1, 1, &[0], code, [0.0; 4], [0.0; 4], [0.0; 4]).unwrap_err().to_string();
+    assert_eq!(
+        said,
+        "refused 4: a wrap code is unknown; use 10497, 33071, 33648, or 0, which is Repeat, where the file gives none"
+    );
 }
 
 #[test]
