@@ -68,9 +68,9 @@ static void flat_lookups(void) {
     expect(swathecold_generate_mipmaps(LINEAR, 4, 1, texels, 7, &written) == 0 && written == 7, "a chain of 7");
     expect(swathecold_sample4_rgb(LINEAR, 4, 1, texels, 7, REPEAT, CLAMP, u, v, still, rgb) == 0 && rgb[0] == 1.0f && rgb[1] == 0.0f && rgb[2] == 0.2f && rgb[3] == 0.0f, "Repeat: texels 3, 0, 1, 0");
     expect(swathecold_sample4_alpha(LINEAR, 4, 1, texels, 7, CLAMP, NOT_GIVEN, u, v, still, alpha) == 0 && alpha[0] == 0.0f && alpha[3] == 1.0f, "Clamp: texels 0 and 3 at the ends");
-    expect(swathecold_sample4_rgb(LINEAR, 4, 1, texels, 7, NOT_GIVEN, NOT_GIVEN, u, v, still, rgb) == 0 && rgb[0] == 1.0f && rgb[1] == 0.0f && rgb[2] == 0.2f && rgb[3] == 0.0f, "not given: Repeat's texels 3, 0, 1, 0");
     memset(rgb, 0, sizeof rgb);
     expect(swathecold_sample4_rgb(LINEAR, 4, 1, texels, 7, 1, CLAMP, u, v, still, rgb) == 4 && rgb[0] == 0.0f, "code 1: refusal 4");
+    expect(swathecold_sample4_rgb(LINEAR, 4, 1, texels, 7, NOT_GIVEN, NOT_GIVEN, u, v, still, rgb) == 0 && rgb[0] == 1.0f && rgb[1] == 0.0f && rgb[2] == 0.2f && rgb[3] == 0.0f, "not given: Repeat's texels 3, 0, 1, 0");
     expect(swathecold_sample4_rgb(LINEAR, 4, 1, texels, 7, MIRRORED, CLAMP, u, far, still, rgb) == 5, "2049: refusal 5");
     expect(swathecold_sample_bilinear_rgb(LINEAR, 4, 1, texels, 7, CLAMP, CLAMP, u, v, 0, faces, rgb) == 0 && rgb[1] == 0.0f, "bilinear at a texel's middle");
     expect(swathecold_sample_bilinear_rgb(LINEAR, 4, 1, texels, 7, NOT_GIVEN, CLAMP, v, v, 0, faces, rgb) == 0 && rgb[0] == 0.5f, "not given, on the edge: texels 3 and 0 by halves");

@@ -50,7 +50,7 @@ impl From<WrapMode> for u32 {
 }
 
 /// The wrap codes along u and along v. The fields are numbers, as a file has them: an unknown one is refused by the call. The
-/// default is a file that gives none, along both axes.
+/// default is not given, along both axes.
 ///
 /// ```
 /// use swathecold::{Sampler, WrapMode};

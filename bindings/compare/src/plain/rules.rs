@@ -1,5 +1,5 @@
-//! The sentences of document 01 that each fix one small rule; document 02's, by its request, where one has taken their place. A
-//! deliberate slip replaces one of them.
+//! The sentences that each fix one small rule: document 01's, or that of document 02's request which has changed it. A deliberate
+//! slip replaces one of them.
 
 use super::curve::decoded_table;
 use super::wrap::Wrap;
