@@ -11,7 +11,7 @@
  * texel:   32 bits, red in the top byte, then green, blue, alpha
  * wrap:    10497 Repeat, 33071 ClampToEdge, 33648 MirroredRepeat, 0 not given: Repeat, glTF 2.0's default
  * refused: 1 kind, 2 side, 3 buffer too short, 4 wrap code, 5 coordinate, step or fractional level, 6 level, 7 direction,
- *          8 kind or face that the call does not take, 9 place outside its level, 10 cross, 11 cut
+ *          8 kind or face that the call does not take, 9 place outside its level, 10 cross, 11 cut, 14 place outside the picture
  */
 #ifndef SWATHECOLD_H
 #define SWATHECOLD_H
@@ -84,6 +84,17 @@ uint32_t swathecold_sample_cubemap_trilinear_rgb(uint32_t kind, uint32_t width, 
                                                  const uint32_t *texels, size_t texels_len,
                                                  const float x[4], const float y[4], const float z[4],
                                                  const float levels[4], float rgb[12]);
+
+/* The ranges of a picture that is no cubemap, of its level 0 alone: for every tile of 16 by 16 texels, edge tiles smaller, eight
+ * bytes: red's smallest, red's largest, green's smallest, and so on to alpha's largest. Tiles go row by row, ceil(width / 16) a
+ * row. *written: the bytes of all tiles; entries past them stay. */
+uint32_t swathecold_build_ranges(uint32_t kind, uint32_t width, uint32_t height, const uint32_t *texels, size_t texels_len,
+                                 uint8_t *ranges, size_t ranges_len, uint64_t *written);
+
+/* Replaces the texel of level 0 at (x, y) and works out the eight bytes of its tile, whatever the ranges held before. Nothing else
+ * changes: the other levels stay as they were made of the old level 0, until swathecold_generate_mipmaps makes them again. */
+uint32_t swathecold_replace_texel(uint32_t kind, uint32_t width, uint32_t height, uint32_t *texels, size_t texels_len,
+                                  uint8_t *ranges, size_t ranges_len, uint32_t x, uint32_t y, uint32_t texel);
 
 #ifdef __cplusplus
 }

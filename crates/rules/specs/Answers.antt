@@ -15,6 +15,8 @@ use Rattle.rules.specs.declared.Sizes.{Sizes}
 use Rattle.rules.specs.declared.Sizes.the-variants.{Level, Refused as NoSizes}
 use Rattle.rules.specs.declared.Filled.{Filled}
 use Rattle.rules.specs.declared.Filled.the-variants.{Texels, Refused as NoTexels}
+use Rattle.rules.specs.declared.Written.{Written}
+use Rattle.rules.specs.declared.Written.the-variants.{Bytes, Refused as NoBytes}
 use Rattle.rules.specs.declared.Level.{Level as LevelAnswer}
 use Rattle.rules.specs.declared.Level.the-variants.{At, Refused as NoLevel}
 use Rattle.rules.specs.declared.Colour.{Colour}
@@ -36,7 +38,8 @@ use Rattle.rules.specs.Places.{planeOf, nearestRgb, nearestAlpha}
 use Rattle.rules.specs.Bilinear.{bilinearRgb, bilinearAlpha}
 use Rattle.rules.specs.Faces.{spotOf}
 use Rattle.rules.specs.Cubemap.{cubemapRgb, trilinearRgb}
-use Rattle.rules.specs.Refusals.{chainRefusal, levelSizesRefusal, viewRefusal, cutCallRefusal, crossRefusal, mipLevelRefusal, sample4Refusal, bilinearRgbRefusal, bilinearAlphaRefusal, directionsRefusal, cubemapRefusal, trilinearRefusal}
+use Rattle.rules.specs.Ranges.{rangesOf, rangesSize, replaced, rangeReplaced}
+use Rattle.rules.specs.Refusals.{chainRefusal, levelSizesRefusal, viewRefusal, cutCallRefusal, crossRefusal, mipLevelRefusal, sample4Refusal, bilinearRgbRefusal, bilinearAlphaRefusal, directionsRefusal, cubemapRefusal, trilinearRefusal, rangesRefusal, replaceRefusal}
 
 -- the answer where the refusal number is 0, and else what is answered for that number
 unfoldable pub answer : {A : Type 0} → ℕ → (ℕ → A) → A → A
@@ -150,3 +153,20 @@ trilinearAnswer kind w h l n m =
     (trilinearRgb l w h (n .x .b) (n .y .b) (n .z .b) (m .b))
     (trilinearRgb l w h (n .x .c) (n .y .c) (n .z .c) (m .c))
     (trilinearRgb l w h (n .x .d) (n .y .d) (n .z .d) (m .d)))
+
+-- build_ranges fills the ranges' front and answers the bytes written
+unfoldable pub rangesAnswer : ℕ → ℕ → ℕ → List ℕ → List ℕ → Written
+rangesAnswer kind w h l ranges = answer (rangesRefusal kind w h (length l) (length ranges)) NoBytes (Bytes (rangesSize w h))
+
+unfoldable pub rangesLeaves : ℕ → ℕ → ℕ → List ℕ → List ℕ → List ℕ
+rangesLeaves kind w h l ranges =
+    leaves (rangesRefusal kind w h (length l) (length ranges)) ranges (rangesOf w h l ++ drop (rangesSize w h) ranges)
+
+-- replace_texel answers its refusal number alone, and leaves the new texel in level 0 and the tile's own range in the ranges
+unfoldable pub replaceLeaves : ℕ → ℕ → ℕ → List ℕ → List ℕ → ℕ → ℕ → ℕ → List ℕ
+replaceLeaves kind w h l ranges x y t =
+    leaves (replaceRefusal kind w h (length l) (length ranges) x y) l (replaced w l x y t)
+
+unfoldable pub replaceRangesLeaves : ℕ → ℕ → ℕ → List ℕ → List ℕ → ℕ → ℕ → ℕ → List ℕ
+replaceRangesLeaves kind w h l ranges x y t =
+    leaves (replaceRefusal kind w h (length l) (length ranges) x y) ranges (rangeReplaced w h (replaced w l x y t) ranges x y)

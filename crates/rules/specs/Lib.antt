@@ -1,4 +1,4 @@
--- Document 01, as definitions, in its order.
+-- Document 01, as definitions, in its order; what document 02 adds stands before the refusals.
 pub mod Kinds
 pub mod Sizes
 pub mod Levels
@@ -19,5 +19,6 @@ pub mod Places
 pub mod Bilinear
 pub mod Faces
 pub mod Cubemap
+pub mod Ranges
 pub mod Refusals
 pub mod Answers

@@ -16,6 +16,7 @@ use Rattle.rules.specs.Kinds.{cubemap, facesOf}
 use Rattle.rules.specs.Sizes.{top, count}
 use Rattle.rules.specs.Cuts.{cutTaken}
 use Rattle.rules.specs.Cross.{crossWidth, crossHeight}
+use Rattle.rules.specs.Ranges.{rangesSize}
 use Rattle.rules.specs.Floats.{magnitude}
 use Rattle.rules.specs.Lanes.{inLanes, inWholes, inDirections}
 use Rattle.rules.specs.Wrapping.{wrapCode}
@@ -100,6 +101,10 @@ crossSidesRefusal w h = unless (sideTaken (crossWidth w) && sideTaken (crossHeig
 unfoldable pub cutRefusal : ℕ → ℕ → ℕ → Pair → Pair → ℕ
 cutRefusal k w h corner sides = unless (cutTaken k w h (corner .x) (corner .y) (sides .x) (sides .y)) 11
 
+-- 14: a place outside the picture
+unfoldable pub outsideRefusal : ℕ → ℕ → ℕ → ℕ → ℕ
+outsideRefusal w h x y = unless (ltb x w && ltb y h) 14
+
 -- ---- the calls: n is the length of a lent buffer
 
 -- 1, 2
@@ -175,3 +180,15 @@ cubemapRefusal kind w h n normals =
 -- sample_cubemap_trilinear_rgb: 1, 2, 3, 8, 7, 5
 unfoldable pub trilinearRefusal : ℕ → ℕ → ℕ → ℕ → Directions → Lanes → ℕ
 trilinearRefusal kind w h n normals levels = cubemapRefusal kind w h n normals orElse finiteRefusal levels
+
+-- build_ranges: 1, 2, 3 (level 0), 3 (the ranges), 8
+unfoldable pub rangesRefusal : ℕ → ℕ → ℕ → ℕ → ℕ → ℕ
+rangesRefusal kind w h texels ranges =
+    pictureRefusal kind w h
+    orElse bufferRefusal (facesOf kind * h * w) texels
+    orElse bufferRefusal (rangesSize w h) ranges
+    orElse noCubemapRefusal kind
+
+-- replace_texel: 1, 2, 3, 8, 14
+unfoldable pub replaceRefusal : ℕ → ℕ → ℕ → ℕ → ℕ → ℕ → ℕ → ℕ
+replaceRefusal kind w h texels ranges x y = rangesRefusal kind w h texels ranges orElse outsideRefusal w h x y

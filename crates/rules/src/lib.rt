@@ -52,6 +52,12 @@ pub enum Filled {
     Refused(u32),
 }
 
+// How many bytes were written.
+pub enum Written {
+    Bytes(usize),
+    Refused(u32),
+}
+
 // A level number.
 pub enum Level {
     At(u32),
