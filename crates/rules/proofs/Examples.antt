@@ -2,7 +2,7 @@
 -- are taken, in which order refusals are given, and the slips that look right. Assumes nothing.
 use mathlib.Core.Path.{_≡_, refl}
 use mathlib.Core.Bool.{true, false}
-use mathlib.Core.List.{[], _∷_}
+use mathlib.Core.List.{[], _∷_, _++_}
 use Prim.Native.Nat.{ℕ, _+_, _*_}
 use lib.IntN.{pos, negsuc}
 use lib.Ieee.{neg, add, sub, mul, div, le, lt, ofBits, ofInt, toUnsigned}
@@ -16,8 +16,9 @@ use Rattle.rules.specs.Reducing.{eachOf, meanByte, linearOf, normalByte,
 use Rattle.rules.specs.Pictures.{chainOf, filledOf}
 use Rattle.rules.specs.Wrapping.{wrapCode, modeOf, remainderOf, mirroredOf, wrapOf}
 use Rattle.rules.specs.Faces.{signOf, oddOf, spotAt, spotOf}
-use Rattle.rules.specs.Refusals.{_orElse_, kindRefusal, sidesRefusal, bufferRefusal, levelRefusal, faceRefusal, noCubemapRefusal, cutRefusal, pictureRefusal, chainRefusal, viewRefusal, cutCallRefusal}
-use Rattle.rules.specs.Answers.{answer, chainLeaves, viewAnswer, cutLeaves}
+use Rattle.rules.specs.Ranges.{tile, smallest, largest, rangeOf, joined, rangesOf, rangesSize, rangeStart, replaced, rangeReplaced}
+use Rattle.rules.specs.Refusals.{_orElse_, kindRefusal, sidesRefusal, bufferRefusal, levelRefusal, faceRefusal, noCubemapRefusal, cutRefusal, outsideRefusal, pictureRefusal, chainRefusal, viewRefusal, cutCallRefusal, rangesRefusal, replaceRefusal}
+use Rattle.rules.specs.Answers.{answer, chainLeaves, viewAnswer, cutLeaves, rangesLeaves, replaceRangesLeaves}
 
 -- ---- sizes
 
@@ -109,6 +110,16 @@ cut-order : (cutCallRefusal cubemap 1 1 5 13 (record { x = 0; y = 0 }) (record {
 unfolding cutCallRefusal pictureRefusal kindRefusal sidesRefusal bufferRefusal noCubemapRefusal cutRefusal cutTaken _orElse_ facesOf
 cut-order = (refl, refl, refl, refl, refl)
 
+-- of a replacement: 3 for level 0 and for the ranges before 8 before 14
+replace-order : (replaceRefusal cubemap 17 1 101 16 17 0 ≡ 3)
+    × (replaceRefusal cubemap 17 1 102 15 17 0 ≡ 3)
+    × (replaceRefusal cubemap 17 1 102 16 17 0 ≡ 8)
+    × (replaceRefusal linear 17 1 17 16 17 0 ≡ 14)
+    × (replaceRefusal linear 17 1 17 16 16 1 ≡ 14)
+    × (replaceRefusal linear 17 1 17 16 16 0 ≡ 0)
+unfolding replaceRefusal rangesRefusal pictureRefusal kindRefusal sidesRefusal bufferRefusal noCubemapRefusal outsideRefusal rangesSize _orElse_ facesOf
+replace-order = (refl, refl, refl, refl, refl, refl)
+
 -- ---- what calls leave and hand out
 
 -- a refusal changes no buffer: two entries are too few for the chain of 2 by 1
@@ -125,6 +136,18 @@ fifth-face = refl
 cut-written : cutLeaves linear 2 1 (5 ∷ 6 ∷ []) 0 (record { x = 1; y = 0 }) (record { x = 1; y = 1 }) (8 ∷ 9 ∷ []) ≡ 6 ∷ 9 ∷ []
 unfolding cutLeaves answer cutCallRefusal pictureRefusal kindRefusal sidesRefusal bufferRefusal noCubemapRefusal cutRefusal cutTaken _orElse_ facesOf cut grid tab texel
 cut-written = refl
+
+-- 17 by 1 has two tiles, the second of one texel; only level 0 is read, and what lies behind the ranges stays
+two-tiles : rangesLeaves linear 17 1 (tab 16 (λ i. 0x20406080 + i) ++ (0xFF000102 ∷ 0 ∷ [])) (tab 17 (λ i. 7))
+    ≡ 0x20 ∷ 0x20 ∷ 0x40 ∷ 0x40 ∷ 0x60 ∷ 0x60 ∷ 0x80 ∷ 0x8F ∷ 0xFF ∷ 0xFF ∷ 0 ∷ 0 ∷ 1 ∷ 1 ∷ 2 ∷ 2 ∷ 7 ∷ []
+unfolding rangesLeaves answer rangesRefusal pictureRefusal kindRefusal sidesRefusal bufferRefusal noCubemapRefusal _orElse_ facesOf rangesOf rangesSize joined rangeOf smallest largest tile cut grid tab texel
+two-tiles = refl
+
+-- the old extreme leaves with its texel, and the other tile's bytes stay, right or wrong
+range-shrinks : replaceRangesLeaves linear 2 17 (0xFF000000 ∷ tab 33 (λ i. 0x01020304)) (tab 17 (λ i. 7)) 0 0 0x01020305
+    ≡ 1 ∷ 1 ∷ 2 ∷ 2 ∷ 3 ∷ 3 ∷ 4 ∷ 5 ∷ 7 ∷ 7 ∷ 7 ∷ 7 ∷ 7 ∷ 7 ∷ 7 ∷ 7 ∷ 7 ∷ []
+unfolding replaceRangesLeaves replaced rangeReplaced answer replaceRefusal outsideRefusal rangesRefusal pictureRefusal kindRefusal sidesRefusal bufferRefusal noCubemapRefusal _orElse_ facesOf rangesSize rangeStart rangeOf smallest largest tile cut grid tab texel
+range-shrinks = refl
 
 -- ---- slips that look right
 

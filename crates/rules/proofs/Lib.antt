@@ -5,6 +5,9 @@ pub mod Sides
 pub mod Refusing
 pub mod RefusingCuts
 pub mod RefusingLookups
+pub mod RefusingRanges
+pub mod Tiles
+pub mod Replacing
 pub mod Bounds
 pub mod Chain
 pub mod Cut

@@ -4,6 +4,7 @@
 use mathlib.Core.Path.{_≡_, refl, sym, _∙_}
 use mathlib.Core.Bool.{Bool, true, false, not, _&&_, false≢true}
 use mathlib.Core.List.{List}
+use mathlib.Core.Logic.{_⊎_, inl, inr, ⊎-elim}
 use Prim.Native.Nat.{ℕ, zero, suc, _≤_, _<_, suc-le-suc}
 use native.Mathlib.Omega.{arith}
 use borrow.Author.Tests.{leb-true, eqb-true, eqb-false, not-true, le-leb, lt-leb, eq-eqb, ne-eqb}
@@ -12,7 +13,7 @@ use Rattle.rules.specs.Kinds.{cubemap, facesOf}
 use Rattle.rules.specs.Sizes.{top, count}
 use Rattle.rules.specs.Pictures.{Picture}
 use Rattle.rules.specs.Refusals.{_orElse_, unless, kindRefusal, sideTaken, sidesRefusal, bufferRefusal, levelRefusal, noCubemapRefusal, onlyCubemapRefusal, faceRefusal, pictureRefusal, chainRefusal, levelSizesRefusal, viewRefusal}
-use Rattle.rules.specs.Answers.{answer}
+use Rattle.rules.specs.Answers.{answer, leaves}
 
 -- ---- the first that is given
 
@@ -53,6 +54,19 @@ answer-given n refused given e = rw e
 pub answer-refused : {A : Type 0} (n : ℕ) (refused : ℕ → A) (given : A) → (n ≡ 0 → ⊥) → answer n refused given ≡ refused n
 unfolding answer
 answer-refused n refused given e = rw (ne-eqb n 0 e)
+
+-- a number is 0 or not
+pub none-or-some : (n : ℕ) → (n ≡ 0) ⊎ (n ≡ 0 → ⊥)
+none-or-some zero = inl refl
+none-or-some (suc n) = inr (λ z. omega arith)
+
+-- what holds of a buffer as found, and as made where nothing is refused
+pub by-refusal : (n : ℕ) (found made : List ℕ) (P : List ℕ → Type 0) → P found → ((n ≡ 0) → P made) → P (leaves n found made)
+by-refusal n found made P as-found as-made =
+    ⊎-elim
+    (λ e. rw (answer-given n (λ k. found) made e) (as-made e))
+    (λ e. rw (answer-refused n (λ k. found) made e) as-found)
+    (none-or-some n)
 
 -- ---- tests
 

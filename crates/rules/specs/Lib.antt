@@ -22,3 +22,4 @@ pub mod Cubemap
 pub mod Ranges
 pub mod Refusals
 pub mod Answers
+pub mod Series

@@ -1,0 +1,69 @@
+// The smallest and the largest value of each channel, of texels that stand in a part of their own.
+ghost use mathlib.Core.Path.{_≡_};
+ghost use Prim.Native.Nat.{_≤_, min, max};
+ghost use lib.ListN.{take};
+ghost use Rattle.ranges.specs.Scans.{Widened, ScanOf};
+
+// The smallest and the largest of some bytes.
+pub struct Ends {
+    pub low: u8,
+    pub high: u8,
+}
+
+// Of each channel.
+pub struct Scan {
+    pub red: Ends,
+    pub green: Ends,
+    pub blue: Ends,
+    pub alpha: Ends,
+}
+
+// The smaller of two bytes.
+fn smaller(a: u8, b: u8) -> u8
+    ensures { λ r. ⌜ r ≡ min a b ⌝ }
+{
+    if a < b { a } else { b }
+}
+
+// The larger of two bytes.
+fn larger(a: u8, b: u8) -> u8
+    ensures { λ r. ⌜ r ≡ max a b ⌝ }
+{
+    if a < b { b } else { a }
+}
+
+// The ends with one byte more.
+fn widened(e: Ends, byte: u8) -> Ends
+    ensures { λ r. ⌜ Widened e byte r ⌝ }
+{
+    Ends {
+        low: smaller(e.low, byte),
+        high: larger(e.high, byte),
+    }
+}
+
+// The first n texels of a part.
+pub fn scan(n: usize, part: &[u32; 256]) -> Scan
+    requires { ⌜ n ≤ 256 ⌝ }
+    ensures { λ r. ⌜ ScanOf (take n (now (part .entry))) r ⌝ }
+{
+    let mut red = Ends { low: 255, high: 0 };
+    let mut green = Ends { low: 255, high: 0 };
+    let mut blue = Ends { low: 255, high: 0 };
+    let mut alpha = Ends { low: 255, high: 0 };
+    let mut i = 0;
+    while i < n {
+        let texel = part[i];
+        red = widened(red, (texel / 16777216) as u8);
+        green = widened(green, (texel / 65536 % 256) as u8);
+        blue = widened(blue, (texel / 256 % 256) as u8);
+        alpha = widened(alpha, (texel % 256) as u8);
+        i += 1;
+    }
+    Scan {
+        red,
+        green,
+        blue,
+        alpha,
+    }
+}
