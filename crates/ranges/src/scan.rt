@@ -1,8 +1,8 @@
 // The smallest and the largest value of each channel, of texels that stand in a part of their own.
 ghost use mathlib.Core.Path.{_≡_};
 ghost use Prim.Native.Nat.{_≤_, min, max};
-ghost use lib.ListN.{take};
-ghost use Rattle.ranges.specs.Scans.{Widened, ScanOf};
+ghost use lib.ListN.{length, take};
+ghost use Rattle.ranges.specs.Scans.{Widened, WithTexel, RangeIs};
 
 // The smallest and the largest of some bytes.
 pub struct Ends {
@@ -11,7 +11,7 @@ pub struct Ends {
 }
 
 // Of each channel.
-pub struct Scan {
+pub struct Range {
     pub red: Ends,
     pub green: Ends,
     pub blue: Ends,
@@ -42,28 +42,34 @@ fn widened(e: Ends, byte: u8) -> Ends
     }
 }
 
-// The first n texels of a part.
-pub fn scan(n: usize, part: &[u32; 256]) -> Scan
-    requires { ⌜ n ≤ 256 ⌝ }
-    ensures { λ r. ⌜ ScanOf (take n (now (part .entry))) r ⌝ }
+// The range with one texel more.
+fn with_texel(found: Range, texel: u32) -> Range
+    ensures { λ r. ⌜ WithTexel found texel r ⌝ }
 {
-    let mut red = Ends { low: 255, high: 0 };
-    let mut green = Ends { low: 255, high: 0 };
-    let mut blue = Ends { low: 255, high: 0 };
-    let mut alpha = Ends { low: 255, high: 0 };
+    Range {
+        red: widened(found.red, (texel / 16777216) as u8),
+        green: widened(found.green, (texel / 65536 % 256) as u8),
+        blue: widened(found.blue, (texel / 256 % 256) as u8),
+        alpha: widened(found.alpha, (texel % 256) as u8),
+    }
+}
+
+// The range of the first n texels of a part.
+pub fn scan(n: usize, part: &[u32]) -> Range
+    requires { ⌜ n ≤ length (now part) ⌝ }
+    ensures { λ r. ⌜ RangeIs (take n (now (part .entry))) r ⌝ }
+{
+    let none = Ends { low: 255, high: 0 };
+    let mut found = Range {
+        red: none,
+        green: none,
+        blue: none,
+        alpha: none,
+    };
     let mut i = 0;
     while i < n {
-        let texel = part[i];
-        red = widened(red, (texel / 16777216) as u8);
-        green = widened(green, (texel / 65536 % 256) as u8);
-        blue = widened(blue, (texel / 256 % 256) as u8);
-        alpha = widened(alpha, (texel % 256) as u8);
+        found = with_texel(found, part[i]);
         i += 1;
     }
-    Scan {
-        red,
-        green,
-        blue,
-        alpha,
-    }
+    found
 }
