@@ -13,6 +13,8 @@ use Rattle.rules.specs.declared.Sizes.{Sizes}
 use Rattle.rules.specs.declared.Sizes.the-variants.{Level, Refused as NoSizes}
 use Rattle.rules.specs.declared.Filled.{Filled}
 use Rattle.rules.specs.declared.Filled.the-variants.{Texels, Refused as NoTexels}
+use Rattle.rules.specs.declared.Written.{Written}
+use Rattle.rules.specs.declared.Written.the-variants.{Bytes, Refused as NoBytes}
 use Rattle.rules.specs.declared.Level.{Level as LevelAnswer}
 use Rattle.rules.specs.declared.Level.the-variants.{At, Refused as NoLevel}
 use Rattle.rules.specs.declared.Colour.{Colour}
@@ -69,6 +71,15 @@ filledNumber (NoTexels n) = n
 abbrev pub filledWritten : Filled → ℕ → ℕ
 filledWritten (Texels n) found = n
 filledWritten (NoTexels n) found = found
+
+-- build_ranges
+abbrev pub bytesNumber : Written → ℕ
+bytesNumber (Bytes n) = 0
+bytesNumber (NoBytes n) = n
+
+abbrev pub bytesWritten : Written → ℕ → ℕ
+bytesWritten (Bytes n) found = n
+bytesWritten (NoBytes n) found = found
 
 -- compute_mip_level
 abbrev pub levelNumber : LevelAnswer → ℕ

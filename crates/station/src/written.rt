@@ -6,8 +6,9 @@ use rules::Filled;
 use rules::Lanes;
 use rules::Level;
 use rules::Sizes;
+use rules::Written;
 ghost use mathlib.Core.Path.{_≡_};
-ghost use Rattle.station.specs.Written.{sizesNumber, sizesWritten, filledNumber, filledWritten, levelNumber, levelWritten, colourNumber, colourWritten, alphaNumber, alphaWritten, facingNumber, uvWritten, facesWritten};
+ghost use Rattle.station.specs.Written.{sizesNumber, sizesWritten, filledNumber, filledWritten, bytesNumber, bytesWritten, levelNumber, levelWritten, colourNumber, colourWritten, alphaNumber, alphaWritten, facingNumber, uvWritten, facesWritten};
 
 pub fn sizes_out(answer: Sizes, sizes: &mut [u64; 4]) -> u32
     ensures number { λ r. ⌜ r ≡ sizesNumber answer ⌝ }
@@ -37,6 +38,19 @@ pub fn filled_out(answer: Filled, written: &mut u64) -> u32
             0
         }
         Filled::Refused(n) => n,
+    }
+}
+
+pub fn bytes_out(answer: Written, written: &mut u64) -> u32
+    ensures number { λ r. ⌜ r ≡ bytesNumber answer ⌝ }
+    ensures writes { λ _. ⌜ now (written .exit) ≡ bytesWritten answer (now (written .entry)) ⌝ }
+{
+    match answer {
+        Written::Bytes(n) => {
+            *written = n as u64;
+            0
+        }
+        Written::Refused(n) => n,
     }
 }
 
