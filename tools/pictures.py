@@ -86,6 +86,28 @@ def studio(size=32):
     return CUBEMAP, size, size, rows
 
 
+def spot(x, y, wide, high):
+    """1 at (0, 0), and less around it."""
+    return math.exp(-(x / wide) ** 2 - (y / high) ** 2)
+
+
+def sprayed_sheet(width=124, height=86):
+    """A coat with faults: a lamp's glare and a glint in the corner, too bright; a scorched patch, too dark; a crater that is both.
+    Elsewhere no colour reaches 0 or 255."""
+    rows = []
+    for y in range(height):
+        for x in range(width):
+            peel = dimple(x + 1, y, 126, 31) - dimple(x, y, 126, 31)
+            coat = 1.08 - 0.25 * y / height + 0.45 * peel + 0.16 * (grain(x, y, 32) - 0.5)
+            light = 240 * spot(x - 38, y - 22 - 0.32 * (x - 38), 24, 6.5) + 185 * spot(x - 117, y - 79, 6, 5)
+            scorch = spot(x - 86, y - 50 + 0.2 * (x - 86), 17, 10) * (1 + 0.45 * grain(x, y, 33))
+            pit = 1.3 * spot(x - 24.5, y - 66.5, 3, 3)
+            rim = 520 * spot(x - 25.5, y - 67.5, 4.4, 4.4) * (1 - spot(x - 23.5, y - 65.5, 5.5, 5.5))
+            shade = coat * (1 - scorch) * (1 - pit)
+            rows.append(tuple(byte(paint * shade + light + rim) for paint in (44, 122, 138)) + (255,))
+    return SRGB, width, height, rows
+
+
 def txr(picture):
     kind, width, height, rows = picture
     return b"TXR" + struct.pack("<HBHH", 1, kind, width, height) + bytes(c for row in rows for c in row)
@@ -94,7 +116,7 @@ def txr(picture):
 def main():
     folder = Path(sys.argv[1] if len(sys.argv) > 1 else "samples")
     folder.mkdir(parents=True, exist_ok=True)
-    for make in (hammered_grey, flat_card, normal_map, metallic_roughness, studio):
+    for make in (hammered_grey, flat_card, normal_map, metallic_roughness, studio, sprayed_sheet):
         (folder / f"{make.__name__}.txr").write_bytes(txr(make()))
 
 
