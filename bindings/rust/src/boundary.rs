@@ -123,4 +123,26 @@ extern "C" {
         levels: *const f32,
         rgb: *mut f32,
     ) -> u32;
+    pub fn swathecold_build_ranges(
+        kind: u32,
+        width: u32,
+        height: u32,
+        texels: *const u32,
+        texels_len: usize,
+        ranges: *mut u8,
+        ranges_len: usize,
+        written: *mut u64,
+    ) -> u32;
+    pub fn swathecold_replace_texel(
+        kind: u32,
+        width: u32,
+        height: u32,
+        texels: *mut u32,
+        texels_len: usize,
+        ranges: *mut u8,
+        ranges_len: usize,
+        x: u32,
+        y: u32,
+        texel: u32,
+    ) -> u32;
 }

@@ -243,3 +243,51 @@ pub fn sample_cubemap_trilinear_rgb(
     })?;
     Ok(lanes_of(rgb))
 }
+
+/// The ranges of a picture that is no cubemap: for every tile of 16 by 16 texels of level 0, edge tiles smaller, eight bytes, red's
+/// smallest, red's largest, green's smallest, and so on to alpha's largest. Tiles go row by row, `width.div_ceil(16)` a row. Answers
+/// the bytes written; entries past them stay. Only level 0 is read. Refusals: 1, 2, 3 (level 0), 3 (the ranges), 8.
+///
+/// ```
+/// use swathecold::{build_ranges, TextureType};
+/// let mut ranges = [0; 8];
+/// assert_eq!(build_ranges(TextureType::Linear, 2, 1, &[0x102030FF, 0x40200080], &mut ranges)?, 8);
+/// assert_eq!(ranges, [0x10, 0x40, 0x20, 0x20, 0x00, 0x30, 0x80, 0xFF]);
+/// # Ok::<(), swathecold::Refusal>(())
+/// ```
+pub fn build_ranges(kind: impl Into<u32>, width: u32, height: u32, texels: &[u32], ranges: &mut [u8]) -> Result<usize, Refusal> {
+    let mut written = 0;
+    let (from, from_len, to, to_len) = (texels.as_ptr(), texels.len(), ranges.as_mut_ptr(), ranges.len());
+    Refusal::of(unsafe { c::swathecold_build_ranges(kind.into(), width, height, from, from_len, to, to_len, &mut written) })?;
+    Ok(written as usize)
+}
+
+/// Replaces the texel of level 0 at (x, y) and works out its tile's eight bytes, whatever the ranges held before. Nothing else
+/// changes: the levels behind level 0 stay those of the old one until [`generate_mipmaps`] fills them again.
+/// Refusals: 1, 2, 3 (level 0), 3 (the ranges), 8, 14.
+///
+/// ```
+/// use swathecold::{build_ranges, replace_texel, TextureType};
+/// let (mut texels, mut ranges) = ([0x102030FF, 0x40200080], [0; 8]);
+/// build_ranges(TextureType::Linear, 2, 1, &texels, &mut ranges)?;
+///
+/// // the largest red leaves, and its range shrinks
+/// replace_texel(TextureType::Linear, 2, 1, &mut texels, &mut ranges, 1, 0, 0x182838FF)?;
+/// assert_eq!(texels, [0x102030FF, 0x182838FF]);
+/// assert_eq!(ranges, [0x10, 0x18, 0x20, 0x28, 0x30, 0x38, 0xFF, 0xFF]);
+/// # Ok::<(), swathecold::Refusal>(())
+/// ```
+#[allow(clippy::too_many_arguments)]
+pub fn replace_texel(
+    kind: impl Into<u32>,
+    width: u32,
+    height: u32,
+    texels: &mut [u32],
+    ranges: &mut [u8],
+    x: u32,
+    y: u32,
+    texel: u32,
+) -> Result<(), Refusal> {
+    let (at, len, beside, beside_len) = (texels.as_mut_ptr(), texels.len(), ranges.as_mut_ptr(), ranges.len());
+    Refusal::of(unsafe { c::swathecold_replace_texel(kind.into(), width, height, at, len, beside, beside_len, x, y, texel) })
+}

@@ -1,7 +1,8 @@
 //! The texture unit of a viewing station: reducing pictures, cutting them, and looking colours up in them.
 //!
 //! The work is done by a library that is proved, call by call, against a paper of rules. This crate gives it Rust's types: slices
-//! for buffers, [`Refusal`] for the numbers, [`Picture`] for a chain that the unit made itself.
+//! for buffers, [`Refusal`] for the numbers, [`Picture`] for a chain that the unit made itself, [`Ranges`] for the smallest and
+//! largest values of a picture's tiles.
 //!
 //! ```
 //! use swathecold::{Picture, TextureType};
@@ -17,13 +18,16 @@
 mod boundary;
 mod calls;
 mod picture;
+mod ranges;
 mod refusal;
 mod types;
 
 pub use calls::{
-    compute_mip_level, cubemap_uv_from_normal, cut, cut_cross, generate_mipmaps, level_sizes, level_view, sample4_alpha,
-    sample4_rgb, sample_bilinear_alpha, sample_bilinear_rgb, sample_cubemap_rgb, sample_cubemap_trilinear_rgb,
+    build_ranges, compute_mip_level, cubemap_uv_from_normal, cut, cut_cross, generate_mipmaps, level_sizes, level_view,
+    replace_texel, sample4_alpha, sample4_rgb, sample_bilinear_alpha, sample_bilinear_rgb, sample_cubemap_rgb,
+    sample_cubemap_trilinear_rgb,
 };
 pub use picture::Picture;
+pub use ranges::{Ranges, Tile};
 pub use refusal::Refusal;
 pub use types::{CubemapUv, Cut, Lanes, LevelSizes, Sampler, TextureType, Vec3x4, WrapMode};

@@ -1,6 +1,7 @@
 //! A picture with its levels, made by the unit.
 
 use crate::calls;
+use crate::ranges::Ranges;
 use crate::refusal::Refusal;
 use crate::types::{Cut, Lanes, LevelSizes, Sampler, TextureType, Vec3x4};
 
@@ -44,12 +45,22 @@ impl Picture {
         Ok(Picture { texture_type, width, height, reductions: 0, texels })
     }
 
+    /// The picture of a level 0 that was reduced this often. Refusals: as of `new`.
+    pub(crate) fn reduced(
+        reductions: u32,
+        texture_type: TextureType,
+        width: u32,
+        height: u32,
+        level0: &[u32],
+    ) -> Result<Picture, Refusal> {
+        Ok(Picture { reductions, ..Picture::new(texture_type, width, height, level0)? })
+    }
+
     /// A level of this picture as a picture of its own, which knows how often it was reduced. Refusal: 6.
     pub fn reopen(&self, level: u32) -> Result<Picture, Refusal> {
         let sizes = self.level_sizes(level)?;
-        let mut opened = Picture::new(self.texture_type, sizes.width, sizes.height, &self.texels[sizes.start..])?;
-        opened.reductions = self.reductions + level;
-        Ok(opened)
+        let reductions = self.reductions + level;
+        Picture::reduced(reductions, self.texture_type, sizes.width, sizes.height, &self.texels[sizes.start..])
     }
 
     /// An aligned part of level 0 as a picture of its own. Refusals: 8, 11.
@@ -57,9 +68,12 @@ impl Picture {
         let room = part.width.min(4096) as usize * part.height.min(4096) as usize;
         let mut target = vec![0; room];
         calls::cut(self.texture_type, self.width, self.height, &self.texels, part, &mut target)?;
-        let mut opened = Picture::new(self.texture_type, part.width, part.height, &target)?;
-        opened.reductions = self.reductions;
-        Ok(opened)
+        Picture::reduced(self.reductions, self.texture_type, part.width, part.height, &target)
+    }
+
+    /// The ranges of level 0, beside a copy of it that can be changed texel by texel. Refusal: 8 for a cubemap.
+    pub fn ranges(&self) -> Result<Ranges, Refusal> {
+        Ranges::of(self)
     }
 
     pub fn texture_type(&self) -> TextureType {

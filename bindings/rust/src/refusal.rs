@@ -18,6 +18,9 @@ use std::fmt;
 pub struct Refusal(u32);
 
 impl Refusal {
+    /// A place outside the picture.
+    pub(crate) const OUTSIDE: Refusal = Refusal(14);
+
     /// `Ok` where the number is 0.
     pub(crate) fn of(number: u32) -> Result<(), Refusal> {
         match number {
@@ -36,7 +39,10 @@ impl Refusal {
         match self.0 {
             1 => ("the kind is unknown", "use 0 to 4"),
             2 => ("a side of the picture is 0 or above 4096", "scale the picture to sides from 1 to 4096"),
-            3 => ("a buffer is too short", "ask level_sizes for the chain's texel count and lend that many"),
+            3 => (
+                "a buffer is too short",
+                "lend as many texels as level_sizes counts in the chain, and for ranges eight bytes a tile, edge tiles included",
+            ),
             4 => ("a wrap code is unknown", "use 10497, 33071, 33648, or 0, which is Repeat, where the file gives none"),
             5 => (
                 "a coordinate, step or fractional level is not finite, or a coordinate is beyond 2048",
@@ -44,13 +50,17 @@ impl Refusal {
             ),
             6 => ("the level is above the top level", "ask for a level up to floor(log2(larger side))"),
             7 => ("a direction is not finite, or too short or too long to have a face", "scale it to a length near 1"),
-            8 => ("the call does not take this kind or this face", "use the call for cubemaps, or a face from 0 to 5 of one"),
+            8 => (
+                "the call does not take this kind or this face",
+                "use a call that takes the kind, or a face that it has: 0 to 5 of a cubemap, else 0",
+            ),
             9 => ("a texel's place lies outside its level", "report this: no input is known to give it"),
             10 => ("the cross's faces have sides outside 1 to 4096", "lend a cross of 4 by 3 faces"),
             11 => (
                 "the cut is not aligned, is empty or is not inside",
                 "use a corner and sides that are multiples of 2 to the order",
             ),
+            14 => ("the place lies outside the picture", "use an x below the width and a y below the height"),
             _ => ("the number is none of the paper's", "report this"),
         }
     }

@@ -21,6 +21,7 @@ fn each_number_is_given_by_its_own_input() {
     assert_eq!(number(cut_cross(3, 3, &[0; 36], &mut [0; 6])), 10);
     let odd = Cut { order: 1, x: 1, y: 0, width: 2, height: 2 };
     assert_eq!(number(cut(4u32, 4, 2, &[0; 8], odd, &mut [0; 4])), 11);
+    assert_eq!(number(replace_texel(4u32, 4, 1, &mut [0; 4], &mut [0; 8], 4, 0, 0)), 14);
 }
 
 #[test]
@@ -46,6 +47,14 @@ fn every_number_has_words() {
         said,
         "refused 4: a wrap code is unknown; use 10497, 33071, 33648, or 0, which is Repeat, where the file gives none"
     );
+    let said = build_ranges(4u32, 1, 1, &[0], &mut [0; 7]).unwrap_err().to_string();
+    assert_eq!(
+        said,
+        "refused 3: a buffer is too short; lend as many texels as level_sizes counts in the chain, \
+         and for ranges eight bytes a tile, edge tiles included"
+    );
+    let said = replace_texel(4u32, 1, 1, &mut [0], &mut [0; 8], 0, 1, 0).unwrap_err().to_string();
+    assert_eq!(said, "refused 14: the place lies outside the picture; use an x below the width and a y below the height");
 }
 
 #[test]
