@@ -1,5 +1,5 @@
-/* Links the archive by its header and calls every name in it: document 01's reference items, a refusal of each call, and that a
- * refusal writes nothing. Prints how many checks held; answers 1 at the first that does not. */
+/* Links the archive by its header and calls every name in it: document 01's reference items, document 02's ranges, a refusal of each
+ * call, and that a refusal writes nothing. Prints how many checks held; answers 1 at the first that does not. */
 #include <math.h>
 #include <stdint.h>
 #include <stdio.h>
@@ -97,11 +97,73 @@ static void cubemaps(void) {
     expect(swathecold_sample_cubemap_trilinear_rgb(CUBEMAP, 2, 2, texels, 30, x, y, z, endless, rgb) == 5, "an endless level: refusal 5");
 }
 
+/* 17 by 18: tiles one wide at the right, two high below. One entry more is a canary in each buffer. */
+enum { W = 17, H = 18, LEVEL0 = W * H, BYTES = 4 * 8 };
+
+static void a_sheet(uint32_t texels[LEVEL0 + 1], uint8_t bytes[BYTES + 1]) {
+    for (size_t i = 0; i < LEVEL0; i++) texels[i] = 0x10203040;
+    texels[15 * W + 16] = 0x10204080;
+    texels[16 * W] = 0x10207000;
+    texels[17 * W + 15] = 0x60403080;
+    texels[LEVEL0] = CANARY;
+    memset(bytes, 0xA5, BYTES + 1);
+}
+
+static void ranges_refused(void) {
+    uint32_t texels[LEVEL0 + 1], old[LEVEL0 + 1], faces[6 * LEVEL0] = {0};
+    uint8_t bytes[BYTES + 1], stale[BYTES + 1];
+    uint64_t written = 7;
+    a_sheet(texels, bytes);
+    a_sheet(old, stale);
+    expect(swathecold_build_ranges(LINEAR, W, H, texels, LEVEL0, bytes, BYTES - 1, &written) == 3, "ranges one short: refusal 3");
+    expect(swathecold_build_ranges(LINEAR, W, H, texels, LEVEL0 - 1, bytes, BYTES, &written) == 3, "level 0 one short: refusal 3");
+    expect(swathecold_build_ranges(CUBEMAP, W, H, faces, 6 * LEVEL0 - 1, bytes, BYTES, &written) == 3, "six faces one short: refusal 3");
+    expect(swathecold_build_ranges(CUBEMAP, W, H, faces, 6 * LEVEL0, bytes, BYTES, &written) == 8, "ranges of a cubemap: refusal 8");
+    expect(swathecold_replace_texel(LINEAR, W, H, texels, LEVEL0, bytes, BYTES - 1, W, 0, 0) == 3, "ranges one short: 3 before 14");
+    expect(swathecold_replace_texel(LINEAR, W, H, texels, LEVEL0 - 1, bytes, BYTES, W, 0, 0) == 3, "level 0 one short: 3 before 14");
+    expect(swathecold_replace_texel(CUBEMAP, W, H, faces, 6 * LEVEL0, bytes, BYTES, W, 0, 0) == 8, "a cubemap: 8 before 14");
+    expect(swathecold_replace_texel(CUBEMAP, W, H, faces, 6 * LEVEL0, bytes, BYTES, 0, 0, 1) == 8 && faces[0] == 0, "a texel of a cubemap: refusal 8");
+    expect(swathecold_replace_texel(LINEAR, W, H, texels, LEVEL0, bytes, BYTES, W, 0, 0) == 14, "one to the right: refusal 14");
+    expect(swathecold_replace_texel(LINEAR, W, H, texels, LEVEL0, bytes, BYTES, 0, H, 0) == 14, "one below: refusal 14");
+    expect(written == 7 && !memcmp(texels, old, sizeof old) && !memcmp(bytes, stale, sizeof stale), "none of them wrote anything");
+}
+
+static void ranges_built(void) {
+    const uint8_t built[] = {0x10, 0x10, 0x20, 0x20, 0x30, 0x30, 0x40, 0x40, 0x10, 0x10, 0x20, 0x20, 0x30, 0x40, 0x40, 0x80,
+                             0x10, 0x60, 0x20, 0x40, 0x30, 0x70, 0x00, 0x80, 0x10, 0x10, 0x20, 0x20, 0x30, 0x30, 0x40, 0x40, 0xA5};
+    uint32_t texels[LEVEL0 + 1];
+    uint8_t bytes[BYTES + 1];
+    uint64_t written = 7;
+    a_sheet(texels, bytes);
+    expect(swathecold_build_ranges(LINEAR, W, H, texels, LEVEL0 + 1, bytes, BYTES + 1, &written) == 0 && written == BYTES, "17 by 18: 32 bytes");
+    expect(!memcmp(bytes, built, sizeof built), "four tiles row by row, and the byte behind them stays");
+}
+
+static void texels_replaced(void) {
+    const uint8_t first[8] = {0x10, 0x50, 0x20, 0x40, 0x30, 0x70, 0x00, 0x80}, second[8] = {0x10, 0x50, 0x20, 0x40, 0x30, 0x30, 0x40, 0x80};
+    uint32_t texels[LEVEL0 + 1], expected[LEVEL0 + 1];
+    uint8_t bytes[BYTES + 1], beside[BYTES + 1];
+    a_sheet(texels, bytes);
+    a_sheet(expected, beside);
+    expected[17 * W + 15] = 0x50403080;
+    memcpy(beside + 16, first, 8);
+    expect(swathecold_replace_texel(LINEAR, W, H, texels, LEVEL0, bytes, BYTES, 15, 17, 0x50403080) == 0, "the texel at (15, 17)");
+    expect(!memcmp(texels, expected, sizeof expected), "no other texel moves");
+    expect(!memcmp(bytes, beside, sizeof beside), "over ranges never built: the tile's own eight bytes, and no other byte moves");
+    expected[16 * W] = 0x10203040;
+    memcpy(beside + 16, second, 8);
+    expect(swathecold_replace_texel(LINEAR, W, H, texels, LEVEL0, bytes, BYTES, 0, 16, 0x10203040) == 0, "the texel at (0, 16)");
+    expect(!memcmp(texels, expected, sizeof expected) && !memcmp(bytes, beside, sizeof beside), "blue and alpha lose an end, and their ranges shrink");
+}
+
 int main(void) {
     sizes_and_chain();
     parts();
     flat_lookups();
     cubemaps();
+    ranges_refused();
+    ranges_built();
+    texels_replaced();
     printf("C boundary: %d checks hold\n", checks);
     return 0;
 }
