@@ -7,6 +7,7 @@ ARCHIVE = target/staticlib/libstation.a
 PLAIN = cargo run --quiet --release --offline --manifest-path bindings/compare/Cargo.toml
 MACHINE = . tools/machine
 SHEET = $(MACHINE) && python3 tools/sheet.py "$$runner target/chain"
+FRAMED = --saturated "$$runner target/ranges"
 export SWATHECOLD_LIB = $(CURDIR)/target/staticlib
 export CARGO_TARGET_DIR = $(CURDIR)/target/cargo
 
@@ -22,21 +23,23 @@ test:
 archive:
 	@rt staticlib station > /dev/null
 
-target/chain: tools/chain.c include/swathecold.h | archive
-	@$(MACHINE) && can $@ "$$no_c" && $${cross_cc:-$(CC)} $(CFLAGS) tools/chain.c $(ARCHIVE) -o $@
+target/chain target/ranges: target/%: tools/%.c tools/txr.h include/swathecold.h | archive
+	@$(MACHINE) && can $@ "$$no_c" && $${cross_cc:-$(CC)} $(CFLAGS) $< $(ARCHIVE) -o $@
 
 samples:
 	python3 tools/pictures.py samples
 
 # make sheet PICTURE=samples/hammered_grey.txr: the picture and all its levels on one sheet, target/sheet.png.
+# make sheet PICTURE=samples/sprayed_sheet.txr SATURATED=1: the picture, and beside it the same with its saturated tiles framed.
 PICTURE ?= samples/hammered_grey.txr
-sheet: target/chain
-	$(SHEET) $(PICTURE) target/sheet.png
+sheet: target/chain target/ranges
+	$(SHEET) $(PICTURE) target/sheet.png $(if $(SATURATED),$(FRAMED))
 
-# The two sheets that the README shows.
-sheets: target/chain
+# The sheets that the README shows.
+sheets: target/chain target/ranges
 	$(SHEET) samples/hammered_grey.txr docs/levels.png
 	$(SHEET) samples/hammered_grey.txr docs/accident.png --accident
+	$(SHEET) samples/sprayed_sheet.txr docs/saturated.png $(FRAMED)
 
 # The long comparison with document 01 read plainly and, where they are given (SWRASTER_SRC), the station's own sources.
 differential: archive
