@@ -2,7 +2,7 @@
 -- past the test nothing is refused, and the answer and the buffers are those of the work (`X-goes`). Assumes nothing.
 use mathlib.Core.Path.{_≡_, sym, ap, _∙_}
 use mathlib.Core.List.{List, _++_}
-use Prim.Native.Nat.{ℕ, _+_, _*_}
+use Prim.Native.Nat.{ℕ}
 use lib.ListN.{length, drop}
 use Rattle.rules.specs.declared.Written.the-variants.{Bytes, Refused}
 use Rattle.rules.specs.Ranges.{rangesOf, rangesSize, replaced, rangeReplaced}

@@ -1,8 +1,8 @@
 -- A tile is a cut of order 0, which is never refused: so what the cut leaves at the front of a part of 256 texels is the tile. Tiles
 -- that are written one after the other are the front of the ranges. Assumes nothing.
-use mathlib.Core.Path.{_≡_, refl, sym, ap, _∙_}
-use mathlib.Core.List.{List, _++_, append-assoc}
-use Prim.Native.Nat.{ℕ, suc, _+_, _-_, _*_, _/_, _%_, _≤_, _<_}
+use mathlib.Core.Path.{_≡_, refl, ap, _∙_}
+use mathlib.Core.List.{List, _++_}
+use Prim.Native.Nat.{ℕ, _+_, _-_, _*_, _/_, _%_, _≤_, _<_}
 use native.Mathlib.Nat.{one-mul, mul-suc, mul-le-mul, div-add-mod'}
 use native.Mathlib.Numerals.{add-one}
 use native.Mathlib.Omega.{arith}
@@ -14,7 +14,7 @@ use Rattle.rules.specs.Ranges.{tiles, tileSide, tile, rangeOf, joined, rangesOf
 use Rattle.rules.specs.Answers.{cutLeaves}
 use Rattle.rules.proofs.Grid.{length-grid}
 use Rattle.rules.proofs.Bounds.{faces-flat}
-use Rattle.rules.proofs.Refusing.{Taken, answer-given}
+use Rattle.rules.proofs.Refusing.{answer-given}
 use Rattle.rules.proofs.RefusingCuts.{CutCall, cut-taken}
 use Rattle.rules.proofs.RefusingRanges.{Ranged}
 use Rattle.rules.proofs.Tiles.{TileAt, tile-at, tile-room, length-range, length-joined}

@@ -3,7 +3,7 @@
 use mathlib.Core.Path.{_≡_, refl}
 use mathlib.Core.Bool.{true, false}
 use mathlib.Core.List.{[], _∷_, _++_}
-use Prim.Native.Nat.{ℕ, _+_, _*_}
+use Prim.Native.Nat.{ℕ, _+_, _*_, _%_}
 use lib.IntN.{pos, negsuc}
 use lib.Ieee.{neg, add, sub, mul, div, le, lt, ofBits, ofInt, toUnsigned}
 use Rattle.rules.specs.Kinds.{normal, cubemap, linear, facesOf, rgba}
@@ -143,9 +143,9 @@ two-tiles : rangesLeaves linear 17 1 (tab 16 (λ i. 0x20406080 + i) ++ (0xFF0001
 unfolding rangesLeaves answer rangesRefusal pictureRefusal kindRefusal sidesRefusal bufferRefusal noCubemapRefusal _orElse_ facesOf rangesOf rangesSize joined rangeOf smallest largest tile cut grid tab texel
 two-tiles = refl
 
--- the old extreme leaves with its texel, and the other tile's bytes stay, right or wrong
-range-shrinks : replaceRangesLeaves linear 2 17 (0xFF000000 ∷ tab 33 (λ i. 0x01020304)) (tab 17 (λ i. 7)) 0 0 0x01020305
-    ≡ 1 ∷ 1 ∷ 2 ∷ 2 ∷ 3 ∷ 3 ∷ 4 ∷ 5 ∷ 7 ∷ 7 ∷ 7 ∷ 7 ∷ 7 ∷ 7 ∷ 7 ∷ 7 ∷ 7 ∷ []
+-- the old extremes leave with their texel, and the other tile's bytes stay, right or wrong
+range-shrinks : replaceRangesLeaves linear 2 17 (0xFF00FF00 ∷ tab 33 (λ i. 0x01020304)) (tab 17 (λ i. i % 2 * 255)) 0 0 0x01020305
+    ≡ 1 ∷ 1 ∷ 2 ∷ 2 ∷ 3 ∷ 3 ∷ 4 ∷ 5 ∷ 0 ∷ 255 ∷ 0 ∷ 255 ∷ 0 ∷ 255 ∷ 0 ∷ 255 ∷ 0 ∷ []
 unfolding replaceRangesLeaves replaced rangeReplaced answer replaceRefusal outsideRefusal rangesRefusal pictureRefusal kindRefusal sidesRefusal bufferRefusal noCubemapRefusal _orElse_ facesOf rangesSize rangeStart rangeOf smallest largest tile cut grid tab texel
 range-shrinks = refl
 

@@ -13,7 +13,7 @@ use Rattle.rules.specs.Sizes.{sideAt, start, count}
 use Rattle.rules.specs.Ranges.{rangesSize}
 use Rattle.rules.specs.Refusals.{_orElse_, bufferRefusal, noCubemapRefusal, pictureRefusal, outsideRefusal, rangesRefusal, replaceRefusal}
 use Rattle.rules.specs.Answers.{levelSizesAnswer}
-use Rattle.rules.proofs.Refusing.{none-or-some, answer-given, answer-refused, sizes-taken, sizes-picture, orElse-zero, orElse-given, orElse-none, orElse-taken, unless-true, unless-false, unless-none, and-true, and-both, test-false, buffer-taken, buffer-facts, buffer-refused, flat-taken, flat-facts, flat-refused, Taken, picture-taken, picture-facts}
+use Rattle.rules.proofs.Refusing.{none-or-some, answer-given, answer-refused, sizes-taken, sizes-picture, orElse-zero, orElse-given, orElse-none, orElse-taken, unless-true, unless-false, unless-none, and-true, and-both, test-false, buffer-taken, buffer-facts, buffer-refused, flat-taken, flat-facts, Taken, picture-taken, picture-facts}
 
 -- ---- 14: a place outside the picture
 

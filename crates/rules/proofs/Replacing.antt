@@ -4,7 +4,7 @@
 use mathlib.Core.Path.{_≡_, refl, sym, ap, subst, _∙_}
 use mathlib.Core.List.{List, [], _∷_, _++_, append-assoc}
 use mathlib.Core.Logic.{_⊎_, inl, inr, ⊎-elim}
-use Prim.Native.Nat.{ℕ, zero, suc, _+_, _-_, _*_, _/_, _≤_, _<_}
+use Prim.Native.Nat.{ℕ, suc, _+_, _*_, _/_, _≤_, _<_}
 use native.Mathlib.Nat.{one-mul}
 use native.Mathlib.Omega.{arith}
 use lib.Arith.{digits-lt}
@@ -12,13 +12,13 @@ use lib.ListN.{length, getD, take, drop, set, length-append, length-set, length-
 use lib.Seq.{sets, sets-eq, length-sets, length-take-le, take-at, drop-at, drop-set-lt, getD-set-same, getD-set-other}
 use Rattle.rules.specs.Kinds.{facesOf}
 use Rattle.rules.specs.Ranges.{rangeOf, tile, rangesOf, rangesSize, rangeStart, replaced, rangeReplaced}
-use Rattle.rules.specs.Refusals.{rangesRefusal, replaceRefusal}
+use Rattle.rules.specs.Refusals.{replaceRefusal}
 use Rattle.rules.specs.Answers.{leaves, rangesLeaves, replaceLeaves, replaceRangesLeaves}
-use Rattle.rules.specs.Series.{Beside, Replacement, built, afterOne, afterAll}
+use Rattle.rules.specs.Series.{Beside, Replacement, built, afterAll}
 use Rattle.rules.proofs.Refusing.{none-or-some, answer-given, answer-refused, by-refusal}
 use Rattle.rules.proofs.Bounds.{faces-flat}
-use Rattle.rules.proofs.RefusingRanges.{Ranged, ranges-facts, ranges-taken, Replacing, replace-facts, replace-ranges}
-use Rattle.rules.proofs.Tiles.{length-range, length-ranges, sets-left, tile-of, tile-room, tile-ext, ranges-replaced}
+use Rattle.rules.proofs.RefusingRanges.{Ranged, ranges-facts, ranges-taken, Replacing, replace-facts}
+use Rattle.rules.proofs.Tiles.{length-range, length-ranges, sets-left, tile-of, tile-room, ranges-replaced}
 
 -- ---- no call changes a buffer's length
 

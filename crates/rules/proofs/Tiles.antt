@@ -3,13 +3,13 @@
 -- ones with one tile's eight bytes worked out again. Assumes nothing.
 use mathlib.Core.Path.{_≡_, refl, sym, ap, ap₂, _∙_}
 use mathlib.Core.List.{List, [], _∷_, _++_, foldr, append-nil}
-use Prim.Native.Nat.{ℕ, zero, suc, _+_, _-_, _*_, _/_, _%_, _≤_, _<_, min, max}
+use Prim.Native.Nat.{ℕ, zero, suc, _+_, _*_, _/_, _%_, _≤_, _<_, min, max}
 use native.Mathlib.Nat.{mul-suc, mul-zero, mul-le-mul-left, zero-mul, zero-add, mod-lt, div-lt-iff-lt-mul, div-add-mod'}
 use native.Mathlib.Decide.{decLt}
 use native.Mathlib.Omega.{arith}
 use lib.Arith.{digits-lt, digits-div, digits-mod}
-use lib.ListN.{length, getD, take, drop, set, length-append, length-set, length-drop}
-use lib.Seq.{sets, sets-eq, length-sets, set-append-left, take-at, drop-at, getD-set-other, getD-take, getD-append-add, drop-append-add, drop-length}
+use lib.ListN.{length, getD, take, set, length-append, length-set}
+use lib.Seq.{sets, sets-eq, set-append-left, take-at, getD-set-other, getD-take, drop-append-add, drop-length}
 use Rattle.rules.specs.Levels.{texel}
 use Rattle.rules.specs.Cuts.{cut}
 use Rattle.rules.specs.Ranges.{tiles, tileSide, tile, smallest, largest, rangeOf, joined, rangesOf, rangesSize, rangeStart, replaced, rangeReplaced}
@@ -90,7 +90,7 @@ pub length-ranges : (w h : ℕ) (l : List ℕ) → length (rangesOf w h l) ≡ r
 unfolding rangesOf rangesSize
 length-ranges w h l = length-joined 8 (tiles h * tiles w) _ (λ n. length-range _)
 
--- what is known of a tile: its texels lie inside
+-- the tile in column i and row j is one of the picture's
 pub record TileAt (w h i j : ℕ) : Type 0 where
   pub column : i < tiles w
   pub row : j < tiles h

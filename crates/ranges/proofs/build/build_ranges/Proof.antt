@@ -1,5 +1,4 @@
 -- `ranges::build::build_ranges` meets its contract: past the test every tile is written. Assumes nothing.
-use native.Mathlib.Omega.{arith}
 use borrow.Author.Needs.{needs}
 use lib.ListN.{length}
 use Rattle.rules.proofs.RefusingRanges.{Ranged, ranges-facts}
