@@ -1,6 +1,6 @@
 //! The unit itself, through its C boundary: the names, the order of parameters and the meaning of swathecold.h.
 
-use crate::plain::{Cut, Lanes, Lent};
+use crate::plain::{Cut, Lanes, Lent, Replacement};
 use crate::unit::{Directions, Picture, Unit};
 
 /// A slice is a pointer and then its length in elements; an array is a pointer to that many elements.
@@ -38,6 +38,10 @@ mod c {
         pub fn swathecold_sample_cubemap_trilinear_rgb(kind: u32, width: u32, height: u32, texels: *const u32,
                                                        texels_len: usize, x: *const f32, y: *const f32,
                                                        z: *const f32, levels: *const f32, rgb: *mut f32) -> u32;
+        pub fn swathecold_build_ranges(kind: u32, width: u32, height: u32, texels: *const u32, texels_len: usize,
+                                       ranges: *mut u8, ranges_len: usize, written: *mut u64) -> u32;
+        pub fn swathecold_replace_texel(kind: u32, width: u32, height: u32, texels: *mut u32, texels_len: usize,
+                                        ranges: *mut u8, ranges_len: usize, x: u32, y: u32, texel: u32) -> u32;
     }
 }
 
@@ -142,6 +146,22 @@ impl Unit for Boundary {
             c::swathecold_sample_cubemap_trilinear_rgb(p.kind, p.width, p.height, p.texels.as_ptr(), p.texels.len(),
                                                        d.x.as_ptr(), d.y.as_ptr(), d.z.as_ptr(), levels.as_ptr(),
                                                        rgb.as_mut_ptr())
+        }
+    }
+
+    fn build_ranges(&self, p: &Lent, ranges: &mut [u8], written: &mut u64) -> u32 {
+        unsafe {
+            c::swathecold_build_ranges(p.kind, p.width, p.height, p.texels.as_ptr(), p.texels.len(),
+                                       ranges.as_mut_ptr(), ranges.len(), written)
+        }
+    }
+
+    fn replace_texel(&self, kind: u32, width: u32, height: u32, texels: &mut [u32], ranges: &mut [u8],
+                     replacement: &Replacement) -> u32 {
+        let &Replacement { x, y, texel } = replacement;
+        unsafe {
+            c::swathecold_replace_texel(kind, width, height, texels.as_mut_ptr(), texels.len(), ranges.as_mut_ptr(),
+                                        ranges.len(), x, y, texel)
         }
     }
 }

@@ -1,10 +1,10 @@
 //! One call with all its arguments, and what it answered and left behind.
 
-use crate::plain::{Cut, Lanes, Lent};
+use crate::plain::{Cut, Lanes, Lent, Replacement};
 use crate::unit::{Directions, Picture, Unit};
 
 /// The names of the calls, in the order of swathecold.h.
-pub const NAMES: [&str; 13] = [
+pub const NAMES: [&str; 15] = [
     "level_sizes",
     "generate_mipmaps",
     "cut_cross",
@@ -18,6 +18,8 @@ pub const NAMES: [&str; 13] = [
     "cubemap_uv_from_normal",
     "sample_cubemap_rgb",
     "sample_cubemap_trilinear_rgb",
+    "build_ranges",
+    "replace_texel",
 ];
 
 /// A call of swathecold.h. A buffer that is written is given as it is before the call.
@@ -37,6 +39,8 @@ pub enum Call<'a> {
     CubemapUvFromNormal { directions: Directions },
     SampleCubemapRgb { picture: Picture<'a>, directions: Directions, levels: [u32; 4] },
     SampleCubemapTrilinearRgb { picture: Picture<'a>, directions: Directions, levels: Lanes },
+    BuildRanges { picture: Lent<'a>, ranges: &'a [u8] },
+    ReplaceTexel { picture: Lent<'a>, ranges: &'a [u8], replacement: Replacement },
 }
 
 impl<'a> Call<'a> {
@@ -56,6 +60,8 @@ impl<'a> Call<'a> {
             Call::CubemapUvFromNormal { .. } => 10,
             Call::SampleCubemapRgb { .. } => 11,
             Call::SampleCubemapTrilinearRgb { .. } => 12,
+            Call::BuildRanges { .. } => 13,
+            Call::ReplaceTexel { .. } => 14,
         }
     }
 
@@ -69,7 +75,9 @@ impl<'a> Call<'a> {
         match self {
             Call::LevelSizes { kind, .. } | Call::GenerateMipmaps { kind, .. } => Some(*kind),
             Call::Cut { source, .. } => Some(source.kind),
-            Call::LevelView { picture, .. } => Some(picture.kind),
+            Call::LevelView { picture, .. }
+            | Call::BuildRanges { picture, .. }
+            | Call::ReplaceTexel { picture, .. } => Some(picture.kind),
             Call::CutCross { .. } | Call::ComputeMipLevel { .. } | Call::CubemapUvFromNormal { .. } => None,
             _ => self.picture().map(|picture| picture.lent.kind),
         }
@@ -88,12 +96,21 @@ impl<'a> Call<'a> {
         }
     }
 
-    /// The buffer that it may write, as it is before the call.
+    /// The texels that it may write, as they are before the call; beside ranges also those that it only reads.
     pub fn before(&self) -> &'a [u32] {
         match self {
             Call::GenerateMipmaps { texels, .. } => texels,
             Call::CutCross { faces, .. } => faces,
             Call::Cut { target, .. } => target,
+            Call::BuildRanges { picture, .. } | Call::ReplaceTexel { picture, .. } => picture.texels,
+            _ => &[],
+        }
+    }
+
+    /// The ranges that it may write, as they are before the call.
+    pub fn ranges_before(&self) -> &'a [u8] {
+        match self {
+            Call::BuildRanges { ranges, .. } | Call::ReplaceTexel { ranges, .. } => ranges,
             _ => &[],
         }
     }
@@ -106,7 +123,9 @@ impl<'a> Call<'a> {
             | Call::CutCross { width, height, .. }
             | Call::ComputeMipLevel { width, height, .. } => (*width, *height),
             Call::Cut { source, .. } => (source.width, source.height),
-            Call::LevelView { picture, .. } => (picture.width, picture.height),
+            Call::LevelView { picture, .. }
+            | Call::BuildRanges { picture, .. }
+            | Call::ReplaceTexel { picture, .. } => (picture.width, picture.height),
             _ => self
                 .picture()
                 .map_or((0, 0), |picture| (picture.lent.width, picture.lent.height)),
@@ -117,16 +136,17 @@ impl<'a> Call<'a> {
 /// What stands where nothing was written.
 pub const UNTOUCHED: u32 = 0xC5C5_5C5C;
 
-/// Texels lent to nobody behind each lent buffer.
-const BEHIND: usize = 8;
+/// Texels or bytes lent to nobody behind each lent buffer.
+const BEHIND: usize = 16;
 
-/// What a call answered and left: the refusal number, its out parameters with what stands behind them, and the buffer
-/// that it was lent with what stands behind it.
+/// What a call answered and left: the refusal number, its out parameters with what stands behind them, and the texels
+/// and ranges that it was lent with what stands behind each.
 #[derive(Clone, PartialEq, Debug)]
 pub struct Outcome {
     pub refusal: u32,
     pub words: [u32; 16],
     pub buffer: Vec<u32>,
+    pub ranges: Vec<u8>,
 }
 
 impl Outcome {
@@ -136,6 +156,7 @@ impl Outcome {
             refusal: 0,
             words: [UNTOUCHED; 16],
             buffer: Vec::new(),
+            ranges: Vec::new(),
         }
     }
 }
@@ -170,13 +191,18 @@ fn floats<const N: usize>(words: &mut [u32; 16], call: impl FnOnce(&mut [f32; N]
     refusal
 }
 
-/// Asks a unit one call. The outcome's buffer is used again, so that many calls take no new memory.
+/// Fills a buffer with what is lent, and puts more behind it that is lent to nobody.
+fn lend<'a, T: Copy>(buffer: &'a mut Vec<T>, before: &[T], behind: T) -> &'a mut [T] {
+    buffer.clear();
+    buffer.extend_from_slice(before);
+    buffer.resize(before.len() + BEHIND, behind);
+    &mut buffer[..before.len()]
+}
+
+/// Asks a unit one call. The outcome's buffers are used again, so that many calls take no new memory.
 pub fn ask(unit: &dyn Unit, call: &Call, outcome: &mut Outcome) {
-    let before = call.before();
-    outcome.buffer.clear();
-    outcome.buffer.extend_from_slice(before);
-    outcome.buffer.resize(before.len() + BEHIND, UNTOUCHED);
-    let lent = &mut outcome.buffer[..before.len()];
+    let lent = lend(&mut outcome.buffer, call.before(), UNTOUCHED);
+    let ranges = lend(&mut outcome.ranges, call.ranges_before(), UNTOUCHED as u8);
     let words = &mut outcome.words;
     outcome.refusal = match call {
         Call::LevelSizes {
@@ -200,6 +226,21 @@ pub fn ask(unit: &dyn Unit, call: &Call, outcome: &mut Outcome) {
         Call::ComputeMipLevel { width, height, steps } => {
             *words = [UNTOUCHED; 16];
             unit.compute_mip_level(*width, *height, steps, &mut words[0])
+        }
+        Call::BuildRanges { picture, .. } => wide::<1>(words, |written| {
+            let copied = Lent {
+                texels: lent,
+                ..*picture
+            };
+            unit.build_ranges(&copied, ranges, &mut written[0])
+        }),
+        Call::ReplaceTexel {
+            picture: p,
+            replacement,
+            ..
+        } => {
+            *words = [UNTOUCHED; 16];
+            unit.replace_texel(p.kind, p.width, p.height, lent, ranges, replacement)
         }
         _ => ask_lookup(unit, call, words),
     };

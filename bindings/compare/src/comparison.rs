@@ -18,7 +18,8 @@ const LOOKED_INTO: u64 = 200;
 pub struct Tally {
     pub calls: u64,
     pub refused: u64,
-    pub texels: u64,
+    /// Texels, or bytes of ranges.
+    pub made: u64,
     pub differences: u64,
     pub smallest: Option<Shown>,
     /// Places left out of the comparison with the source, and those of them that differ.
@@ -69,7 +70,7 @@ impl Other {
         let tally = self.tally_of(call);
         tally.calls += 1;
         tally.refused += (expected.refusal != 0) as u64;
-        tally.texels += texels_made(call, expected);
+        tally.made += made(call, expected);
         if is_source {
             let than = tally.smallest_listed.as_ref().map_or(u64::MAX, |shown| shown.size);
             let out = left_out(call, expected, got, than);
@@ -88,8 +89,8 @@ impl Other {
     }
 }
 
-/// Refusal numbers run to 11; 0 stands for an accepted call.
-pub const REFUSALS: usize = 12;
+/// Refusal numbers run to 14; 0 stands for an accepted call.
+pub const REFUSALS: usize = 15;
 
 /// The reading and those that are held against it.
 pub struct Comparison {
@@ -150,8 +151,10 @@ impl Comparison {
 
 /// A refusal answers the number only and no lent buffer changes.
 fn refuses_cleanly(call: &Call, outcome: &Outcome) -> bool {
-    let untouched = outcome.words.iter().all(|word| *word == UNTOUCHED);
-    outcome.refusal == 0 || (untouched && outcome.buffer.starts_with(call.before()))
+    let untouched = outcome.words.iter().all(|word| *word == UNTOUCHED)
+        && outcome.buffer.starts_with(call.before())
+        && outcome.ranges.starts_with(call.ranges_before());
+    outcome.refusal == 0 || untouched
 }
 
 /// Keeps the smaller of two, the earlier where they are as large.
@@ -163,8 +166,8 @@ fn keep_smallest(kept: &mut Option<Shown>, found: Option<Shown>) {
     }
 }
 
-/// How many texels a call made, by the count that it answered; a chain's level 0 was there before.
-fn texels_made(call: &Call, outcome: &Outcome) -> u64 {
+/// How many texels a call made, or bytes of ranges, by the count that it answered; a chain's level 0 was there before.
+fn made(call: &Call, outcome: &Outcome) -> u64 {
     if outcome.refusal != 0 {
         return 0;
     }
@@ -173,7 +176,8 @@ fn texels_made(call: &Call, outcome: &Outcome) -> u64 {
         Call::GenerateMipmaps {
             kind, width, height, ..
         } => written - level_texels::<Document01>(*kind, *width, *height, 0) as u64,
-        Call::CutCross { .. } | Call::Cut { .. } => written,
+        Call::CutCross { .. } | Call::Cut { .. } | Call::BuildRanges { .. } => written,
+        Call::ReplaceTexel { .. } => 8,
         _ => 0,
     }
 }

@@ -9,6 +9,7 @@ pub mod call;
 pub mod cases;
 pub mod comparison;
 mod left_out;
+mod parts;
 pub mod plain;
 pub mod random;
 pub mod reading;

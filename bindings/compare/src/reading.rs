@@ -1,6 +1,6 @@
 //! The plain reading as a unit, by any rules: 01's own, or those with one slip.
 
-use crate::plain::{self, Answer, Cut, Lanes, Lent, Rules};
+use crate::plain::{self, Answer, Cut, Lanes, Lent, Replacement, Rules};
 use crate::unit::{Directions, Picture, Unit};
 use std::marker::PhantomData;
 
@@ -82,5 +82,14 @@ impl<R: Rules> Unit for Reading<R> {
     fn sample_cubemap_trilinear_rgb(&self, picture: &Picture, d: &Directions, levels: &Lanes,
                                     rgb: &mut [f32; 12]) -> u32 {
         put(plain::sample_cubemap_trilinear_rgb::<R>(&picture.lent, &d.x, &d.y, &d.z, levels), rgb)
+    }
+
+    fn build_ranges(&self, picture: &Lent, ranges: &mut [u8], written: &mut u64) -> u32 {
+        put(plain::build_ranges::<R>(picture, ranges), written)
+    }
+
+    fn replace_texel(&self, kind: u32, width: u32, height: u32, texels: &mut [u32], ranges: &mut [u8],
+                     replacement: &Replacement) -> u32 {
+        put(plain::replace_texel::<R>(kind, width, height, texels, ranges, replacement), &mut ())
     }
 }

@@ -29,7 +29,7 @@ fn refusals_given(comparison: &Comparison) -> String {
 /// The report of one.
 fn of_one(other: &Other) -> String {
     let mut text = format!("## {}\n\n", other.name);
-    text += "| call | kind | calls | refused | texels made | left out | of these differ | differences |\n";
+    text += "| call | kind | calls | refused | texels or bytes made | left out | of these differ | differences |\n";
     text += "|---|---|--:|--:|--:|--:|--:|--:|\n";
     for (call, kind, tally) in tallies(other) {
         let _ = writeln!(
@@ -39,12 +39,13 @@ fn of_one(other: &Other) -> String {
             KIND_NAMES[kind],
             tally.calls,
             tally.refused,
-            tally.texels,
+            tally.made,
             tally.left_out,
             tally.listed,
             tally.differences
         );
     }
+    text += &not_asked(other);
     text += &smallest(other, "listed difference", |tally| {
         tally.smallest_listed.as_ref().map(|s| &s.text)
     });
@@ -57,6 +58,19 @@ fn of_one(other: &Other) -> String {
         other.differences()
     );
     text
+}
+
+/// The calls that were never asked of one: the source has not all of them.
+fn not_asked(other: &Other) -> String {
+    let asked = |call: usize| (0..KINDS).any(|kind| other.tally(call, kind).calls > 0);
+    let names: Vec<&str> = (0..NAMES.len())
+        .filter(|call| !asked(*call))
+        .map(|call| NAMES[call])
+        .collect();
+    if names.is_empty() {
+        return String::new();
+    }
+    format!("\nNot asked of it: {}\n", names.join(", "))
 }
 
 /// The tallies in which something was counted.

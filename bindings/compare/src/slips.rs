@@ -172,4 +172,25 @@ slips! {
 
     /// Trilinear by two weights.
     TwoWeights { fn between_levels(c0: f32, c1: f32, t: f32) -> f32 { c0 * (1.0 - t) + c1 * t } }
+
+    /// Tile columns by floor(width/16).
+    ColumnsDownward {
+        fn tile_number(width: u32, column: u32, row: u32) -> usize { (row * (width / 16) + column) as usize }
+    }
+
+    /// The largest value before the smallest.
+    LargestFirst {
+        fn smallest_and_largest(values: &[u8]) -> [u8; 2] {
+            let [smallest, largest] = Document01::smallest_and_largest(values);
+            [largest, smallest]
+        }
+    }
+
+    /// A replacement that widens the range by its texel instead of working it out.
+    RangeWidened {
+        fn brought_up_to_date(before: [u8; 8], texel: u32, _own: [u8; 8]) -> [u8; 8] {
+            let byte = |k: usize| texel.to_be_bytes()[k / 2];
+            std::array::from_fn(|k| if k % 2 == 0 { before[k].min(byte(k)) } else { before[k].max(byte(k)) })
+        }
+    }
 }

@@ -2,6 +2,7 @@
 
 use crate::call::{ask, Call, Outcome, UNTOUCHED};
 use crate::left_out::left_out;
+use crate::parts::parts;
 use crate::plain::{level_sizes, top_level, Document01, Lanes, CUBEMAP};
 use crate::text::{shown, Shown};
 use crate::unit::{Directions, Unit};
@@ -46,6 +47,9 @@ pub fn smaller(
         if let Some(call) = one_lane(call, lane) {
             attempt(&call);
         }
+    }
+    for part in parts(call, expected, got) {
+        attempt(&part.call());
     }
     least
 }

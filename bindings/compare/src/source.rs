@@ -1,7 +1,7 @@
-//! The source's own text as a unit. It has no refusals and no cut, so it is asked only what document 01 accepts.
+//! The source's own text as a unit. It has no refusals, no cut and no ranges: it is asked only what document 01 accepts.
 
 use crate::call::Call;
-use crate::plain::{Cut, Lanes, Lent, CUBEMAP};
+use crate::plain::{Cut, Lanes, Lent, Replacement, CUBEMAP};
 use crate::unit::{Directions, Picture, Unit};
 use glam::{UVec4, Vec4};
 use std::cell::RefCell;
@@ -138,7 +138,7 @@ impl Source {
 impl Unit for Source {
     fn has(&self, call: &Call) -> bool {
         match call {
-            Call::Cut { .. } => false,
+            Call::Cut { .. } | Call::BuildRanges { .. } | Call::ReplaceTexel { .. } => false,
             Call::LevelSizes { width, height, .. } => *width as u64 * *height as u64 <= LARGEST_FOR_SIZES,
             Call::LevelView { picture, .. } => picture.width as u64 * picture.height as u64 <= LARGEST_FOR_SIZES,
             _ => true,
@@ -236,5 +236,14 @@ impl Unit for Source {
                                     rgb: &mut [f32; 12]) -> u32 {
         *rgb = colours(self.over(picture, [0, 0]).sample_cubemap_trilinear_rgb(vec3x4(d), vec4(levels)));
         0
+    }
+
+    fn build_ranges(&self, _picture: &Lent, _ranges: &mut [u8], _written: &mut u64) -> u32 {
+        unreachable!("the source has no ranges")
+    }
+
+    fn replace_texel(&self, _kind: u32, _width: u32, _height: u32, _texels: &mut [u32], _ranges: &mut [u8],
+                     _replacement: &Replacement) -> u32 {
+        unreachable!("the source has no ranges")
     }
 }

@@ -5,7 +5,7 @@ use crate::plain::{Lanes, Lent};
 use crate::unit::Directions;
 use std::fmt::{Display, Formatter, Result, Write};
 
-/// At most this many texels are written out.
+/// At most this many texels or bytes are written out.
 const WRITTEN_OUT: usize = 32;
 
 /// Four floats, each as a number and as its bits.
@@ -27,6 +27,19 @@ impl Display for Texels<'_> {
             return write!(f, "{} texels", self.0.len());
         }
         let each: Vec<String> = self.0.iter().map(|texel| format!("{texel:08X}")).collect();
+        write!(f, "[{}]", each.join(" "))
+    }
+}
+
+/// Bytes as two capital hex digits each, or their number.
+struct Bytes<'a>(&'a [u8]);
+
+impl Display for Bytes<'_> {
+    fn fmt(&self, f: &mut Formatter<'_>) -> Result {
+        if self.0.len() > WRITTEN_OUT {
+            return write!(f, "{} bytes", self.0.len());
+        }
+        let each: Vec<String> = self.0.iter().map(|byte| format!("{byte:02X}")).collect();
         write!(f, "[{}]", each.join(" "))
     }
 }
@@ -89,6 +102,19 @@ fn arguments(call: &Call) -> String {
         Call::ComputeMipLevel { width, height, steps } => {
             format!("{width} by {height}, steps {}", Floats(steps))
         }
+        Call::BuildRanges { picture: p, ranges } => format!("{}, ranges {}", picture(p), Bytes(ranges)),
+        Call::ReplaceTexel {
+            picture: p,
+            ranges,
+            replacement: r,
+        } => format!(
+            "{}, ranges {}, at ({}, {}) {:08X}",
+            picture(p),
+            Bytes(ranges),
+            r.x,
+            r.y,
+            r.texel
+        ),
         _ => lookup_arguments(call),
     }
 }
@@ -132,7 +158,6 @@ fn lookup_arguments(call: &Call) -> String {
 /// The first thing in which two outcomes differ, where they do.
 pub fn first_difference(reading: &Outcome, other: &Outcome) -> String {
     let mut text = String::new();
-    let first = |a: &[u32], b: &[u32]| a.iter().zip(b).position(|(a, b)| a != b);
     if reading.refusal != other.refusal {
         let _ = write!(text, "answers {} for {}; ", other.refusal, reading.refusal);
     }
@@ -144,7 +169,16 @@ pub fn first_difference(reading: &Outcome, other: &Outcome) -> String {
         let (a, b) = (reading.buffer[i], other.buffer[i]);
         let _ = write!(text, "texel {i} left is {b:08X} for {a:08X}; ");
     }
+    if let Some(i) = first(&reading.ranges, &other.ranges) {
+        let (a, b) = (reading.ranges[i], other.ranges[i]);
+        let _ = write!(text, "byte {i} of the ranges left is {b:02X} for {a:02X}; ");
+    }
     text
+}
+
+/// The first place where two rows differ.
+pub fn first<T: PartialEq>(a: &[T], b: &[T]) -> Option<usize> {
+    a.iter().zip(b).position(|(a, b)| a != b)
 }
 
 /// A call that shows a difference, in words, and how large it is.

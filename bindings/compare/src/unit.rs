@@ -2,7 +2,7 @@
 //! what it has to say only where it answers 0.
 
 use crate::call::Call;
-use crate::plain::{Cut, Lanes, Lent};
+use crate::plain::{Cut, Lanes, Lent, Replacement};
 
 /// A picture lent to lookups. Equal numbers stand for equal texels, so a unit may keep what it made of them.
 #[derive(Clone, Copy)]
@@ -44,4 +44,7 @@ pub trait Unit {
                           rgb: &mut [f32; 12]) -> u32;
     fn sample_cubemap_trilinear_rgb(&self, picture: &Picture, directions: &Directions, levels: &Lanes,
                                     rgb: &mut [f32; 12]) -> u32;
+    fn build_ranges(&self, picture: &Lent, ranges: &mut [u8], written: &mut u64) -> u32;
+    fn replace_texel(&self, kind: u32, width: u32, height: u32, texels: &mut [u32], ranges: &mut [u8],
+                     replacement: &Replacement) -> u32;
 }

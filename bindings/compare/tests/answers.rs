@@ -1,6 +1,7 @@
 //! The list of answers: it says enough to make each call again, and what it says is what the plain reading answers.
 
-use swathecold_compare::answers::{agrees, from_bytes, sample, to_bytes, Record, ANSWER, LONGEST};
+use swathecold_compare::answers::{agrees, from_bytes, sample, to_bytes, Record, ANSWER, ARGUMENTS, LONGEST};
+use swathecold_compare::call::NAMES;
 use swathecold_compare::plain::Document01;
 use swathecold_compare::reading::Reading;
 use swathecold_compare::slips;
@@ -12,8 +13,10 @@ fn the_list_can_be_replayed() {
     assert_eq!(records, sample(1), "the same seed makes the same list");
     assert!(records.iter().all(|record| agrees(&Reading::<Document01>::NEW, record)));
     assert!(records.iter().all(|record| record[5] as usize <= LONGEST));
-    for call in 0..13 {
-        let of_call = |record: &&Record| record[0] == call;
+    let mut with_ranges = records.iter().filter(|record| record[0] >= 13);
+    assert!(with_ranges.all(|record| record[ARGUMENTS] as usize <= LONGEST));
+    for call in 0..NAMES.len() {
+        let of_call = |record: &&Record| record[0] as usize == call;
         let accepted = records
             .iter()
             .filter(of_call)

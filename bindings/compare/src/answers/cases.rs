@@ -13,7 +13,7 @@ use crate::random::Random;
 use crate::reading::Reading;
 
 /// Accepted calls of each number.
-const ACCEPTED: [usize; 13] = [200, 250, 40, 100, 80, 250, 200, 120, 250, 120, 200, 200, 160];
+const ACCEPTED: [usize; 15] = [200, 250, 40, 100, 80, 250, 200, 120, 250, 120, 200, 200, 160, 150, 200];
 
 /// Times that each refusal stands in the list alone; with each later one it stands once.
 const ALONE: usize = 3;
@@ -130,7 +130,7 @@ fn accepted_call(list: &mut List, call: usize) {
     let mut arguments = if call == 2 || (has_buffer && (too_long || list.random.one_in(3))) {
         accepted(&mut list.random, call, 0)
     } else {
-        of_picture(&mut list.random, 0, kind, width, height)
+        of_picture(&mut list.random, call, 0, kind, width, height)
     };
     if call == 3 {
         let cut = drawn_cut(&mut list.random, arguments.width, arguments.height);

@@ -25,9 +25,9 @@ pub fn bytes(seed: u32, count: usize) -> Vec<u8> {
     (0..count).map(|_| byte()).collect()
 }
 
-/// The sum over a buffer: from 1, each texel added to 65599 times the sum before, modulo 2^32 - 5.
-pub fn checksum(texels: &[u32]) -> u32 {
-    texels
+/// The sum over a buffer: from 1, each texel or byte added to 65599 times the sum before, modulo 2^32 - 5.
+pub fn checksum<T: Copy + Into<u64>>(buffer: &[T]) -> u32 {
+    buffer
         .iter()
-        .fold(1u64, |sum, texel| (sum * 65599 + *texel as u64) % 4294967291) as u32
+        .fold(1u64, |sum, entry| (sum * 65599 + (*entry).into()) % 4294967291) as u32
 }

@@ -11,7 +11,7 @@ pub use generator::{bytes, checksum, texels};
 pub use record::{Record, ANSWER, ARGUMENTS, WORDS};
 pub use replay::{agrees, call_of};
 
-/// No lent buffer of the list is longer: texels, and bytes of a cross.
+/// No lent buffer of the list is longer: texels, and bytes of a cross or of ranges.
 pub const LONGEST: usize = 8192;
 
 /// What a buffer that is only written holds before the call.

@@ -57,7 +57,9 @@ fn length_read(call: &Call) -> usize {
         Call::GenerateMipmaps { texels, .. } => texels.len(),
         Call::CutCross { bytes, .. } => bytes.len(),
         Call::Cut { source, .. } => source.texels.len(),
-        Call::LevelView { picture, .. } => picture.texels.len(),
+        Call::LevelView { picture, .. } | Call::BuildRanges { picture, .. } | Call::ReplaceTexel { picture, .. } => {
+            picture.texels.len()
+        }
         _ => call.picture().map_or(0, |picture| picture.lent.texels.len()),
     }
 }
@@ -101,26 +103,35 @@ fn put_arguments(record: &mut Record, call: &Call) {
         Call::SampleCubemapTrilinearRgb {
             directions: d, levels, ..
         } => words.floats(&d.x).floats(&d.y).floats(&d.z).floats(levels),
+        Call::BuildRanges { ranges, .. } => words.put(&[ranges.len() as u32]),
+        Call::ReplaceTexel {
+            ranges, replacement: r, ..
+        } => words.put(&[ranges.len() as u32, r.x, r.y, r.texel]),
     };
 }
 
-/// The answer: the refusal, twelve words that are 0 where there is nothing to say, the sum over the written buffer.
+/// The answer: the refusal, twelve words that are 0 where there is nothing to say, the sum over the written buffer. A
+/// replacement writes two and answers nothing else: the sum over its ranges is the first of the twelve words.
 pub fn answer(call: &Call, outcome: &Outcome) -> [u32; WORDS - ANSWER] {
     let mut words = [0; WORDS - ANSWER];
     words[0] = outcome.refusal;
     let left = &outcome.buffer[..call.before().len()];
-    if matches!(
-        call,
-        Call::GenerateMipmaps { .. } | Call::CutCross { .. } | Call::Cut { .. }
-    ) {
-        words[13] = checksum(left);
+    let ranges = &outcome.ranges[..call.ranges_before().len()];
+    match call {
+        Call::GenerateMipmaps { .. } | Call::CutCross { .. } | Call::Cut { .. } => words[13] = checksum(left),
+        Call::BuildRanges { .. } => words[13] = checksum(ranges),
+        Call::ReplaceTexel { .. } => (words[1], words[13]) = (checksum(ranges), checksum(left)),
+        _ => (),
     }
     if outcome.refusal == 0 {
         let wide = |count: usize| (0..count).map(|i| outcome.words[2 * i]).collect::<Vec<u32>>();
         let said = match call {
             Call::LevelSizes { .. } => wide(4),
             Call::LevelView { .. } => wide(2),
-            Call::GenerateMipmaps { .. } | Call::CutCross { .. } | Call::Cut { .. } => wide(1),
+            Call::GenerateMipmaps { .. } | Call::CutCross { .. } | Call::Cut { .. } | Call::BuildRanges { .. } => {
+                wide(1)
+            }
+            Call::ReplaceTexel { .. } => Vec::new(),
             Call::ComputeMipLevel { .. } => outcome.words[..1].to_vec(),
             Call::Sample4Alpha { .. } | Call::SampleBilinearAlpha { .. } => outcome.words[..4].to_vec(),
             Call::CubemapUvFromNormal { .. } => [&outcome.words[..8], &outcome.words[10..14]].concat(),

@@ -4,13 +4,14 @@ use super::generator::{bytes, texels};
 use super::record::{answer, Record, ANSWER, ARGUMENTS};
 use super::BEFORE;
 use crate::call::{ask, Call, Outcome};
-use crate::plain::{Cut, Lanes, Lent};
+use crate::plain::{Cut, Lanes, Lent, Replacement};
 use crate::unit::{Directions, Picture, Unit};
 
-/// The buffers of a record: the texels or bytes that are read, and what is written as it is before.
+/// The buffers of a record: the texels or bytes that are read, the ranges, and what is only written as it is before.
 pub struct Buffers {
     texels: Vec<u32>,
     bytes: Vec<u8>,
+    ranges: Vec<u8>,
     written: Vec<u32>,
 }
 
@@ -29,9 +30,11 @@ impl Buffers {
             3 => record[ARGUMENTS + 5] as usize,
             _ => 0,
         };
+        let has_ranges = matches!(call, 13 | 14);
         let mut buffers = Buffers {
             texels: of_seed,
             bytes: if is_cross { bytes(seed, length) } else { Vec::new() },
+            ranges: bytes(seed, if has_ranges { record[ARGUMENTS] as usize } else { 0 }),
             written: vec![BEFORE; written],
         };
         if seed == 0 && !is_cross {
@@ -82,7 +85,13 @@ pub fn call_of<'a>(record: &Record, buffers: &'a Buffers) -> Call<'a> {
         9 => Call::SampleBilinearAlpha { picture, codes, u, v, level: argument(10) },
         10 => Call::CubemapUvFromNormal { directions },
         11 => Call::SampleCubemapRgb { picture, directions, levels: four(record, 12) },
-        _ => Call::SampleCubemapTrilinearRgb { picture, directions, levels: lanes(record, 12) },
+        12 => Call::SampleCubemapTrilinearRgb { picture, directions, levels: lanes(record, 12) },
+        13 => Call::BuildRanges { picture: lent, ranges: &buffers.ranges },
+        _ => Call::ReplaceTexel {
+            picture: lent,
+            ranges: &buffers.ranges,
+            replacement: Replacement { x: argument(1), y: argument(2), texel: argument(3) },
+        },
     }
 }
 

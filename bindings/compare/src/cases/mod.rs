@@ -1,5 +1,6 @@
 //! The cases: edges first, then numbers drawn by the seed. Every part has its own stream, so a part can be run alone.
 
+mod beside;
 mod bilinear;
 mod chains;
 mod crosses;
@@ -9,7 +10,9 @@ mod cuts;
 mod directions;
 mod levels;
 mod nearest;
+mod ranges;
 pub mod refusals;
+mod replacements;
 mod sizes;
 pub mod spoil;
 mod texels;
@@ -162,8 +165,8 @@ fn mixed(texels: &[u32]) -> u64 {
 /// A part of a run.
 type Part = (&'static str, fn(&mut Run));
 
-/// The parts, in 01's order.
-const PARTS: [Part; 12] = [
+/// The parts, in 01's order and then in 02's.
+const PARTS: [Part; 14] = [
     ("refusals", refusals::run),
     ("sizes", sizes::run),
     ("chains", chains::run),
@@ -176,6 +179,8 @@ const PARTS: [Part; 12] = [
     ("bilinear", bilinear::run),
     ("directions", directions::run),
     ("cubemaps", cubemaps::run),
+    ("ranges", ranges::run),
+    ("replacements", replacements::run),
 ];
 
 /// Runs every part; `say` is told of each before it starts.

@@ -3,8 +3,8 @@
 use super::spoil::{accepted, TARGET};
 use super::Run;
 
-/// The refusals that each call can give, by its number; the second 3 of cut and cross is that of the target.
-pub const OF_CALL: [&[u32]; 13] = [
+/// The refusals that each call can give, by its number; a second 3 is that of the second buffer.
+pub const OF_CALL: [&[u32]; 15] = [
     &[1, 2, 6],
     &[1, 2, 3],
     &[10, 3, TARGET],
@@ -18,6 +18,8 @@ pub const OF_CALL: [&[u32]; 13] = [
     &[7],
     &[1, 2, 3, 8, 7],
     &[1, 2, 3, 8, 7, 5],
+    &[1, 2, 3, TARGET, 8],
+    &[1, 2, 3, TARGET, 8, 14],
 ];
 
 /// Each choice of refusals is tried so many times, with other spoiled arguments.

@@ -5,11 +5,13 @@ use super::texels::bytes;
 use super::values::{coordinates, direction, fractional_level, steps};
 use super::CODES;
 use crate::call::Call;
-use crate::plain::{chain_texels, top_level, Cut, Document01, Lanes, Lent, Rules, CUBEMAP};
+use crate::plain::{
+    chain_texels, level_texels, ranges_bytes, top_level, Cut, Document01, Lanes, Lent, Replacement, Rules, CUBEMAP,
+};
 use crate::random::{ulps, Random};
 use crate::unit::{Directions, Picture};
 
-/// Refusal 3 of the buffer that is written, where a call has one beside the buffer that is read.
+/// Refusal 3 of the second buffer, where a call has two: a target, or ranges.
 pub const TARGET: u32 = 33;
 
 /// The arguments of any call.
@@ -31,28 +33,34 @@ pub struct Arguments {
     cut: Cut,
     bytes: Vec<u8>,
     target: Vec<u32>,
+    ranges: Vec<u8>,
+    replacement: Replacement,
 }
 
 /// Accepted arguments for the call of this number, with a small picture of a kind that it takes.
 pub fn accepted(random: &mut Random, call: usize, number: u64) -> Arguments {
     let kind = taken_kind(random, call);
-    let is_cross = call == 2;
-    let least = if is_cross { 4 } else { 1 };
-    let (width, height) = (random.between(least, 12) as u32, random.between(least, 12) as u32);
-    of_picture(random, number, kind, width, height)
+    // A cross has faces of one texel at least, a picture with ranges up to nine tiles.
+    let (least, most) = match call {
+        2 => (4, 12),
+        13 | 14 => (1, 36),
+        _ => (1, 12),
+    };
+    let (width, height) = (random.between(least, most) as u32, random.between(least, most) as u32);
+    of_picture(random, call, number, kind, width, height)
 }
 
 /// A kind that the call takes.
 pub fn taken_kind(random: &mut Random, call: usize) -> u32 {
     match call {
         11 | 12 => CUBEMAP,
-        3 | 6 | 7 | 9 => random.pick(&[0, 1, 2, 4]),
+        3 | 6 | 7 | 9 | 13 | 14 => random.pick(&[0, 1, 2, 4]),
         _ => random.below(5) as u32,
     }
 }
 
-/// Accepted arguments for a picture that is accepted itself.
-pub fn of_picture(random: &mut Random, number: u64, kind: u32, width: u32, height: u32) -> Arguments {
+/// Accepted arguments for a picture that the call takes.
+pub fn of_picture(random: &mut Random, call: usize, number: u64, kind: u32, width: u32, height: u32) -> Arguments {
     let top = top_level(width, height);
     let level = random.below(top as u64 + 1) as u32;
     let (level_width, level_height) = (
@@ -89,6 +97,22 @@ pub fn of_picture(random: &mut Random, number: u64, kind: u32, width: u32, heigh
         },
         bytes: Vec::new(),
         target: Vec::new(),
+        ranges: Vec::new(),
+        // Drawn for its own call alone, so that the other calls of a seed stay as they are.
+        replacement: if call == 14 {
+            replacement(random, width, height)
+        } else {
+            Replacement { x: 0, y: 0, texel: 0 }
+        },
+    }
+}
+
+/// A replacement inside a picture.
+pub fn replacement(random: &mut Random, width: u32, height: u32) -> Replacement {
+    Replacement {
+        x: random.below(width as u64) as u32,
+        y: random.below(height as u64) as u32,
+        texel: random.next() as u32,
     }
 }
 
@@ -131,6 +155,7 @@ impl Arguments {
                 (self.width, self.height) = (width, height);
             }
             11 => self.spoil_cut(random),
+            14 => self.spoil_place(random),
             _ => (),
         }
     }
@@ -170,7 +195,7 @@ impl Arguments {
     /// A kind that the call does not take, or a face that the kind has not.
     fn spoil_kind_or_face(&mut self, random: &mut Random, call: usize, lane: usize) {
         match call {
-            3 | 6 | 7 | 9 => self.kind = CUBEMAP,
+            3 | 6 | 7 | 9 | 13 | 14 => self.kind = CUBEMAP,
             11 | 12 => self.kind = random.pick(&[0, 1, 2, 4]),
             _ if self.kind == CUBEMAP => self.faces[lane] = random.pick(&[6, 7, 255, u32::MAX]),
             _ => self.faces[lane] = random.pick(&[1, 5, 6, u32::MAX]),
@@ -192,15 +217,29 @@ impl Arguments {
         }
     }
 
+    /// A place outside the picture.
+    fn spoil_place(&mut self, random: &mut Random) {
+        let Replacement { x, y, .. } = &mut self.replacement;
+        let (place, side) = if random.one_in(2) {
+            (x, self.width)
+        } else {
+            (y, self.height)
+        };
+        *place = random.pick(&[side, side.saturating_add(1), side | 1 << 31, u32::MAX]);
+    }
+
     /// Buffers for the arguments as they are now: exact or longer, or shorter where refusal 3 is to hold.
     pub fn lend(&mut self, random: &mut Random, call: usize, short: bool, target_short: bool) {
         // No buffer is made for a side that is refused.
         let held = |side: u32| if side == 0 || side > 4096 { 20 } else { side };
         let (width, height) = (held(self.width), held(self.height));
-        let whole = if call == 3 {
-            width as usize * height as usize * if self.kind == CUBEMAP { 6 } else { 1 }
-        } else {
-            chain_texels::<Document01>(self.kind, width, height) as usize
+        let level_0 = level_texels::<Document01>(self.kind, width, height, 0) as usize;
+        let chain = chain_texels::<Document01>(self.kind, width, height) as usize;
+        let whole = match call {
+            // The other levels may stand behind level 0, and nobody looks at them.
+            13 | 14 if !short && self.kind != CUBEMAP && random.one_in(2) => chain,
+            3 | 13 | 14 => level_0,
+            _ => chain,
         };
         let length = shortened(random, whole, short);
         self.texels = (0..length).map(|_| random.next() as u32).collect();
@@ -212,12 +251,17 @@ impl Arguments {
             held(self.cut.width) as usize * held(self.cut.height) as usize
         };
         self.target = vec![0x0BAD_F00D; shortened(random, written.max(1), target_short)];
+        if matches!(call, 13 | 14) {
+            let length = shortened(random, ranges_bytes(width, height) as usize, target_short);
+            self.ranges = bytes(random, length);
+        }
     }
 
-    /// Other texels and bytes in the buffers, as many as before; the one that is written holds `before` everywhere.
+    /// Other texels and bytes in the buffers, as many as before; one that is only written holds `before` everywhere.
     pub fn refill(&mut self, texels: impl Fn(usize) -> Vec<u32>, bytes: impl Fn(usize) -> Vec<u8>, before: u32) {
         self.texels = texels(self.texels.len());
         self.bytes = bytes(self.bytes.len());
+        self.ranges = bytes(self.ranges.len());
         self.target.fill(before);
     }
 
@@ -245,7 +289,9 @@ impl Arguments {
             9 => Call::SampleBilinearAlpha { picture, codes, u, v, level },
             10 => Call::CubemapUvFromNormal { directions },
             11 => Call::SampleCubemapRgb { picture, directions, levels },
-            _ => Call::SampleCubemapTrilinearRgb { picture, directions, levels: self.fractions },
+            12 => Call::SampleCubemapTrilinearRgb { picture, directions, levels: self.fractions },
+            13 => Call::BuildRanges { picture: lent, ranges: &self.ranges },
+            _ => Call::ReplaceTexel { picture: lent, ranges: &self.ranges, replacement: self.replacement },
         }
     }
 }

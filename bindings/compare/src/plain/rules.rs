@@ -184,6 +184,23 @@ pub trait Rules {
     fn between_levels(c0: f32, c1: f32, t: f32) -> f32 {
         c0 + (c1 - c0) * t
     }
+
+    /// T-02: tiles go row by row, ceil(width/16) a row: which one stands in this column and row.
+    fn tile_number(width: u32, column: u32, row: u32) -> usize {
+        row as usize * width.div_ceil(16) as usize + column as usize
+    }
+
+    /// T-02: the smallest value before the largest.
+    fn smallest_and_largest(values: &[u8]) -> [u8; 2] {
+        let smallest = values.iter().fold(255, |a, b| a.min(*b));
+        let largest = values.iter().fold(0, |a, b| a.max(*b));
+        [smallest, largest]
+    }
+
+    /// T-02: a replacement brings the tile up to date: its own range stands there, whatever stood there before.
+    fn brought_up_to_date(_before: [u8; 8], _texel: u32, own: [u8; 8]) -> [u8; 8] {
+        own
+    }
 }
 
 /// The sign that goes with a face: a component >= 0 (also -0) takes the even face.
