@@ -38,7 +38,7 @@ pub fn agrees(record: &Record, refusal: u32, words: &[u32; 12], sum: u32) -> boo
     record[35] == sum
 }
 
-// Whether the record has the answer of a call that fills a buffer: the texels written.
+// Whether the record has the answer of a call that fills a buffer: the texels or bytes written.
 pub fn filled_agrees(record: &Record, refusal: u32, written: u64, sum: u32) -> bool {
     let words = four_words(count(written), 0, 0, 0);
     agrees(record, refusal, &words, sum)

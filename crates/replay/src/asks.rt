@@ -1,5 +1,6 @@
 // A record's call, by its number: the buffers that it is lent, and the call itself.
 use crate::parts;
+use crate::ranges;
 use crate::samples;
 use crate::stream::texels_of;
 use crate::words::Record;
@@ -17,6 +18,7 @@ fn reading_agrees(record: &Record, texels: &[u32]) -> bool {
         9 => samples::sample_bilinear_alpha_agrees(record, texels),
         11 => samples::sample_cubemap_rgb_agrees(record, texels),
         12 => samples::sample_cubemap_trilinear_rgb_agrees(record, texels),
+        13 => ranges::build_ranges_agrees(record, texels),
         _ => false,
     }
 }
@@ -28,10 +30,11 @@ fn lent_agrees(record: &Record) -> bool {
         return false;
     }
     let mut texels = texels_of(record, n);
-    if record[0] == 1 {
-        parts::generate_mipmaps_agrees(record, &mut texels[..n])
-    } else {
-        reading_agrees(record, &texels[..n])
+    let call = record[0];
+    match call {
+        1 => parts::generate_mipmaps_agrees(record, &mut texels[..n]),
+        14 => ranges::replace_texel_agrees(record, &mut texels[..n]),
+        _ => reading_agrees(record, &texels[..n]),
     }
 }
 

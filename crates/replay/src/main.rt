@@ -2,6 +2,7 @@
 mod answers;
 mod asks;
 mod parts;
+mod ranges;
 mod samples;
 mod stream;
 mod words;

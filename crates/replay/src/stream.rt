@@ -63,7 +63,7 @@ pub fn texels_of(record: &Record, n: usize) -> Texels
     }
 }
 
-// The n bytes of a cross, of a seed.
+// The n bytes of a cross or of ranges, of a seed.
 pub fn bytes_of(seed: u32, n: usize) -> [u8; 8192]
     requires { ⌜ n ≤ 8192 ⌝ }
     ensures { λ r. ⌜ Counts n r ⌝ }
@@ -87,17 +87,28 @@ pub fn texels_before(n: usize) -> Texels
     [0xC5C55C5C; 8192]
 }
 
-// A sum with one more texel: 65599 times the sum, and the texel, modulo 2^32 - 5.
+// A sum with one more texel or byte: 65599 times the sum, and the texel, modulo 2^32 - 5.
 fn with_texel(sum: u32, texel: u32) -> u32 {
     ((sum as u64 * 65599 + texel as u64) % 4294967291) as u32
 }
 
-// The sum over a whole buffer, from 1.
+// The sum over a whole buffer of texels, from 1.
 pub fn sum_of(texels: &[u32]) -> u32 {
     let mut sum = 1u32;
     let mut i = 0usize;
     while i < texels.len() {
         sum = with_texel(sum, texels[i]);
+        i += 1;
+    }
+    sum
+}
+
+// The sum over a whole buffer of bytes, from 1.
+pub fn sum_of_bytes(bytes: &[u8]) -> u32 {
+    let mut sum = 1u32;
+    let mut i = 0usize;
+    while i < bytes.len() {
+        sum = with_texel(sum, bytes[i] as u32);
         i += 1;
     }
     sum
