@@ -3,6 +3,7 @@
 pub mod arguments;
 pub mod chains;
 pub mod lookups;
+pub mod ranges;
 
 use crate::unit::Unit;
 use std::time::{Duration, Instant};

@@ -1,7 +1,7 @@
 //! `bench [ROUNDS]`: unit and source side by side in one process, turn by turn, the best of several rounds, as ratios.
 
 use swathecold_compare::bench::arguments::{drawn, Chain};
-use swathecold_compare::bench::{chains, lookups, table, unit, Best, Row};
+use swathecold_compare::bench::{chains, lookups, ranges, table, unit, Best, Row};
 use swathecold_compare::random::Random;
 use swathecold_compare::unit::Unit;
 
@@ -30,6 +30,7 @@ fn main() {
     println!("{}", of_chains(&unit, name, &mut random, rounds));
     println!("{}", of_growth(&unit, name, &mut random, rounds));
     println!("{}", of_lookups(&unit, name, &mut random, rounds));
+    println!("{}", of_ranges(&unit, name, &mut random, rounds));
 }
 
 /// Chains of each kind, the cut and the cross.
@@ -70,4 +71,13 @@ fn of_lookups(unit: &dyn Unit, name: &str, random: &mut Random, rounds: usize) -
     let rows = lookups::rows(unit, &plain, &cube, &arguments);
     let best: Vec<Best> = rows.into_iter().map(|row: Row| row.best(rounds)).collect();
     table("Lookups", "a call of four lanes", name, &best)
+}
+
+/// Building ranges, and a replacement in a picture that a cache holds and in one that none does.
+fn of_ranges(unit: &dyn Unit, name: &str, random: &mut Random, rounds: usize) -> String {
+    let mut rows = vec![ranges::build(unit, random, 2048).best(rounds)];
+    for side in [256, 2048] {
+        rows.push(ranges::replace(unit, random, side).best(rounds));
+    }
+    table("Ranges", "a texel of level 0 (a replacement: a call)", name, &rows)
 }
