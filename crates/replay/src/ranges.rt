@@ -7,12 +7,12 @@ use crate::stream::sum_of;
 use crate::stream::sum_of_bytes;
 use crate::words::Record;
 use crate::words::length;
-use station::ranges;
+use station::beside;
 
 // Call 13, with the ranges.
 fn built_agrees(record: &Record, texels: &[u32], bytes: &mut [u8]) -> bool {
     let mut written = 0u64;
-    let refusal = ranges::swathecold_build_ranges(
+    let refusal = beside::swathecold_build_ranges(
         record[2],
         record[3],
         record[4],
@@ -35,7 +35,7 @@ pub fn build_ranges_agrees(record: &Record, texels: &[u32]) -> bool {
 
 // Call 14, with the ranges. It answers no more than its refusal: the sum over the ranges stands in word 23.
 fn replaced_agrees(record: &Record, texels: &mut [u32], bytes: &mut [u8]) -> bool {
-    let refusal = ranges::swathecold_replace_texel(
+    let refusal = beside::swathecold_replace_texel(
         record[2],
         record[3],
         record[4],

@@ -1,5 +1,6 @@
 // What the buffers hold before a call, by a record's seed, and the sum over a buffer after it. No buffer is longer than 8192.
 use crate::words::Record;
+use crate::words::wide;
 ghost use mathlib.Core.Path.{_≡_};
 ghost use Prim.Native.Nat.{_≤_, _<_};
 ghost use lib.ListN.{length};
@@ -108,7 +109,7 @@ pub fn sum_of_bytes(bytes: &[u8]) -> u32 {
     let mut sum = 1u32;
     let mut i = 0usize;
     while i < bytes.len() {
-        sum = with_texel(sum, bytes[i] as u32);
+        sum = with_texel(sum, wide(bytes[i]));
         i += 1;
     }
     sum

@@ -5,7 +5,7 @@ ghost use Prim.Native.Nat.{_+_, _≤_, _<_};
 pub type Record = [u32; 36];
 
 // A byte as a word.
-fn wide(byte: u8) -> u32
+pub fn wide(byte: u8) -> u32
     ensures { λ r. ⌜ r < 256 ⌝ }
 {
     byte as u32
