@@ -1,3 +1,1 @@
 pub mod Scanning
-pub mod Tiling
-pub mod Passing

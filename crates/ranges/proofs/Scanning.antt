@@ -1,22 +1,21 @@
 -- A scan goes texel by texel: what it has found of the first i is what they have, and with one byte more the smallest is the smaller
 -- of the two, the largest the larger. One law over the channel. Assumes nothing.
-use mathlib.Core.Path.{_≡_, refl, ap, _∙_}
+use mathlib.Core.Path.{_≡_, sym, ap, _∙_}
 use mathlib.Core.List.{List, [], _∷_, _++_, map, map-append}
 use Prim.Native.Nat.{ℕ, _+_, _<_}
 use native.Mathlib.Numerals.{add-one}
 use lib.ListN.{length, getD, take}
 use lib.Seq.{sets, take-suc}
 use Rattle.rules.specs.Kinds.{redOf, greenOf, blueOf, alphaOf}
-use Rattle.rules.specs.Ranges.{smallest, largest, rangeOf}
-use Rattle.rules.proofs.Tiles.{smallest-last, largest-last}
+use Rattle.rules.specs.Ranges.{rangeOf}
+use Rattle.rules.proofs.Tiles.{smallest-none, largest-none, smallest-last, largest-last, range-is}
 use Rattle.ranges.specs.declared.scan.Ends.{Ends}
 use Rattle.ranges.specs.declared.scan.Range.{Range}
 use Rattle.ranges.specs.Scans.{Widened, WithTexel, EndsOf, RangeIs, bytesOf}
 
 -- before the first texel
 ends-none : (channel : ℕ → ℕ) → EndsOf channel [] (record { low = 255; high = 0 })
-unfolding smallest largest
-ends-none channel = record { low = refl; high = refl }
+ends-none channel = record { low = sym smallest-none; high = sym largest-none }
 
 -- one texel more
 ends-more : {channel : ℕ → ℕ} {l : List ℕ} {e r : Ends} (t : ℕ) → EndsOf channel l e → Widened e (channel t) r
@@ -46,8 +45,8 @@ range-none = record { red = ends-none redOf; green = ends-none greenOf; blue = e
 
 -- the eight bytes are the range
 range-bytes : {l : List ℕ} {r : Range} → RangeIs l r → bytesOf r ≡ rangeOf l
-unfolding rangeOf
-range-bytes is = rw (is .red .low, is .red .high, is .green .low, is .green .high, is .blue .low, is .blue .high, is .alpha .low, is .alpha .high)
+range-bytes {l} is =
+    range-is l (is .red .low) (is .red .high) (is .green .low) (is .green .high) (is .blue .low) (is .blue .high) (is .alpha .low) (is .alpha .high)
 
 -- and so are they once they are stored
 pub range-stored : {t : List ℕ} {r : Range} {a b : ℕ} (ranges made : List ℕ) → made ≡ sets ranges a (bytesOf r) → a ≡ b → RangeIs t r

@@ -8,10 +8,10 @@ ghost use Prim.Native.Nat.{_+_, _*_, _≤_};
 ghost use lib.ListN.{length};
 ghost use lib.Seq.{sets};
 ghost use Rattle.rules.specs.Ranges.{tiles, tileSide, tile, rangeOf, rangesSize, rangeStart};
+ghost use Rattle.rules.proofs.Building.{Flat};
 ghost use Rattle.rules.proofs.RefusingRanges.{Ranged};
 ghost use Rattle.rules.proofs.Tiles.{TileAt};
 ghost use Rattle.ranges.specs.Scans.{RangeIs, bytesOf};
-ghost use Rattle.ranges.specs.Tiles.{Flat};
 
 // Tiles of 16 along a side, the last one smaller.
 pub fn tiles(side: u32) -> u32

@@ -5,10 +5,11 @@ pub mod Sides
 pub mod Refusing
 pub mod RefusingCuts
 pub mod RefusingLookups
+pub mod Bounds
 pub mod RefusingRanges
 pub mod Tiles
+pub mod Building
 pub mod Replacing
-pub mod Bounds
 pub mod Chain
 pub mod Cut
 pub mod Laws

@@ -3,16 +3,20 @@
 use mathlib.Core.Path.{_≡_, sym, ap, _∙_}
 use mathlib.Core.Bool.{true, _&&_}
 use mathlib.Core.Logic.{⊎-elim}
-use Prim.Native.Nat.{ℕ, _*_, _≤_, _<_}
+use mathlib.Core.List.{List, _++_}
+use Prim.Native.Nat.{ℕ, _+_, _*_, _/_, _≤_, _<_}
 use native.Mathlib.Omega.{arith}
 use borrow.Author.Tests.{ltb-true, lt-ltb}
 use lib.Dec.{ltb}
+use lib.ListN.{length, drop, set}
+use lib.Seq.{sets}
 use Rattle.rules.specs.declared.Sizes.the-variants.{Level, Refused as NoSizes}
+use Rattle.rules.specs.declared.Written.the-variants.{Bytes, Refused as NoBytes}
 use Rattle.rules.specs.Kinds.{cubemap, facesOf}
 use Rattle.rules.specs.Sizes.{sideAt, start, count}
-use Rattle.rules.specs.Ranges.{rangesSize}
+use Rattle.rules.specs.Ranges.{tile, rangeOf, rangesOf, rangesSize, rangeStart, replaced, rangeReplaced}
 use Rattle.rules.specs.Refusals.{_orElse_, bufferRefusal, noCubemapRefusal, pictureRefusal, outsideRefusal, rangesRefusal, replaceRefusal}
-use Rattle.rules.specs.Answers.{levelSizesAnswer}
+use Rattle.rules.specs.Answers.{levelSizesAnswer, rangesAnswer, rangesLeaves, replaceLeaves, replaceRangesLeaves}
 use Rattle.rules.proofs.Refusing.{none-or-some, answer-given, answer-refused, sizes-taken, sizes-picture, orElse-zero, orElse-given, orElse-none, orElse-taken, unless-true, unless-false, unless-none, and-true, and-both, test-false, buffer-taken, buffer-facts, buffer-refused, flat-taken, flat-facts, Taken, picture-taken, picture-facts}
 
 -- ---- 14: a place outside the picture
@@ -71,6 +75,10 @@ pub record Ranged (kind w h texels ranges : ℕ) : Type 0 where
   pub level0 : facesOf kind * h * w ≤ texels
   pub room : rangesSize w h ≤ ranges
   pub flat : kind ≡ cubemap → ⊥
+
+-- buffers that are as long serve as well
+pub still-ranged : {kind w h n m n′ m′ : ℕ} → Ranged kind w h n m → n′ ≡ n → m′ ≡ m → Ranged kind w h n′ m′
+still-ranged r en em = rw (en, em) r
 
 module _ (kind w h texels ranges : ℕ) where
   pub ranges-taken : Ranged kind w h texels ranges → rangesRefusal kind w h texels ranges ≡ 0
@@ -145,3 +153,39 @@ module _ (kind w h texels ranges x y : ℕ) where
   pub replace-place : rangesRefusal kind w h texels ranges ≡ 0 → replaceRefusal kind w h texels ranges x y ≡ outsideRefusal w h x y
   unfolding replaceRefusal
   replace-place e = orElse-zero _ _ e
+
+-- ---- a call works out its number and tests it. Where it is not 0 it is answered, and the buffers stay as found (`X-stops`); past the
+-- test the answer and the buffers are those of the work (`X-goes`)
+
+pub passed : {r n : ℕ} → r ≡ n → r ≡ 0 → n ≡ 0
+passed e none = sym e ∙ none
+
+module _ (kind w h : ℕ) (l ranges : List ℕ) where
+  pub build-stops : {r : ℕ} → r ≡ rangesRefusal kind w h (length l) (length ranges) → (r ≡ 0 → ⊥)
+      → (NoBytes r ≡ rangesAnswer kind w h l ranges) × (ranges ≡ rangesLeaves kind w h l ranges)
+  unfolding rangesAnswer rangesLeaves
+  build-stops e some =
+      let other : rangesRefusal kind w h (length l) (length ranges) ≡ 0 → ⊥ = λ none. some (e ∙ none) in
+      (rw e (sym (answer-refused _ _ _ other)), sym (answer-refused _ _ _ other))
+
+  pub build-goes : {n : ℕ} {t : List ℕ} → rangesRefusal kind w h (length l) (length ranges) ≡ 0 → n ≡ rangesSize w h
+      → t ≡ rangesOf w h l ++ drop (rangesSize w h) ranges
+      → (Bytes n ≡ rangesAnswer kind w h l ranges) × (t ≡ rangesLeaves kind w h l ranges)
+  unfolding rangesAnswer rangesLeaves
+  build-goes none en et = (ap Bytes en ∙ sym (answer-given _ _ _ none), et ∙ sym (answer-given _ _ _ none))
+
+  module _ (x y t : ℕ) where
+    pub replace-stops : {r : ℕ} → r ≡ replaceRefusal kind w h (length l) (length ranges) x y → (r ≡ 0 → ⊥)
+        → (r ≡ replaceRefusal kind w h (length l) (length ranges) x y)
+        × ((l ≡ replaceLeaves kind w h l ranges x y t) × (ranges ≡ replaceRangesLeaves kind w h l ranges x y t))
+    unfolding replaceLeaves replaceRangesLeaves
+    replace-stops e some =
+        let other : replaceRefusal kind w h (length l) (length ranges) x y ≡ 0 → ⊥ = λ none. some (e ∙ none) in
+        (e, (sym (answer-refused _ _ _ other), sym (answer-refused _ _ _ other)))
+
+    pub replace-goes : {r : List ℕ} → replaceRefusal kind w h (length l) (length ranges) x y ≡ 0
+        → r ≡ sets ranges (rangeStart w (x / 16) (y / 16)) (rangeOf (tile w h (set l (y * w + x) t) (x / 16) (y / 16)))
+        → (0 ≡ replaceRefusal kind w h (length l) (length ranges) x y)
+        × ((set l (y * w + x) t ≡ replaceLeaves kind w h l ranges x y t) × (r ≡ replaceRangesLeaves kind w h l ranges x y t))
+    unfolding replaceLeaves replaceRangesLeaves replaced rangeReplaced
+    replace-goes none er = (sym none, (sym (answer-given _ _ _ none), er ∙ sym (answer-given _ _ _ none)))

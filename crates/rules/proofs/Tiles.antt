@@ -2,7 +2,7 @@
 -- that the place (x, y) does not lie in is the same after a new texel there. So the ranges of the picture so changed are the old
 -- ones with one tile's eight bytes worked out again. Assumes nothing.
 use mathlib.Core.Path.{_≡_, refl, sym, ap, ap₂, _∙_}
-use mathlib.Core.List.{List, [], _∷_, _++_, foldr, append-nil}
+use mathlib.Core.List.{List, [], _∷_, _++_, map, foldr, append-nil}
 use Prim.Native.Nat.{ℕ, zero, suc, _+_, _*_, _/_, _%_, _≤_, _<_, min, max}
 use native.Mathlib.Nat.{mul-suc, mul-zero, mul-le-mul-left, zero-mul, zero-add, mod-lt, div-lt-iff-lt-mul, div-add-mod'}
 use native.Mathlib.Decide.{decLt}
@@ -10,6 +10,7 @@ use native.Mathlib.Omega.{arith}
 use lib.Arith.{digits-lt, digits-div, digits-mod}
 use lib.ListN.{length, getD, take, set, length-append, length-set}
 use lib.Seq.{sets, sets-eq, set-append-left, take-at, getD-set-other, getD-take, drop-append-add, drop-length}
+use Rattle.rules.specs.Kinds.{redOf, greenOf, blueOf, alphaOf}
 use Rattle.rules.specs.Levels.{texel}
 use Rattle.rules.specs.Cuts.{cut}
 use Rattle.rules.specs.Ranges.{tiles, tileSide, tile, smallest, largest, rangeOf, joined, rangesOf, rangesSize, rangeStart, replaced, rangeReplaced}
@@ -21,6 +22,14 @@ module _ (op : ℕ → ℕ → ℕ) (e : ℕ) (first : (b : ℕ) → op b e ≡ 
   foldr-last : (l : List ℕ) (b : ℕ) → foldr op e (l ++ (b ∷ [])) ≡ op (foldr op e l) b
   foldr-last [] b = first b
   foldr-last (a ∷ l) b = rw (foldr-last l b) (group a (foldr op e l) b)
+
+pub smallest-none : smallest [] ≡ 255
+unfolding smallest
+smallest-none = refl
+
+pub largest-none : largest [] ≡ 0
+unfolding largest
+largest-none = refl
 
 pub smallest-last : (l : List ℕ) (b : ℕ) → smallest (l ++ (b ∷ [])) ≡ min (smallest l) b
 unfolding smallest
@@ -81,6 +90,13 @@ sets-joined k (suc n) m f g lf lg lt e =
     ]
 
 -- ---- the ranges of a picture
+
+-- the eight bytes, each by itself
+pub range-is : (t : List ℕ) {r R g G b B a A : ℕ} → r ≡ smallest (map redOf t) → R ≡ largest (map redOf t)
+    → g ≡ smallest (map greenOf t) → G ≡ largest (map greenOf t) → b ≡ smallest (map blueOf t) → B ≡ largest (map blueOf t)
+    → a ≡ smallest (map alphaOf t) → A ≡ largest (map alphaOf t) → r ∷ R ∷ g ∷ G ∷ b ∷ B ∷ a ∷ A ∷ [] ≡ rangeOf t
+unfolding rangeOf
+range-is t er eR eg eG eb eB ea eA = rw (er, eR, eg, eG, eb, eB, ea, eA)
 
 pub length-range : (t : List ℕ) → length (rangeOf t) ≡ 8
 unfolding rangeOf

@@ -1,8 +1,7 @@
 -- `ranges::build::build_ranges` meets its contract: past the test every tile is written. Assumes nothing.
 use borrow.Author.Needs.{needs}
 use lib.ListN.{length}
-use Rattle.rules.proofs.RefusingRanges.{Ranged, ranges-facts}
-use Rattle.ranges.proofs.Passing.{passed, build-stops, build-goes}
+use Rattle.rules.proofs.RefusingRanges.{passed, Ranged, ranges-facts, build-stops, build-goes}
 use Rattle.ranges.proofs.build.build_ranges.Statement.{statement}
 use Rattle.ranges.proofs.build.build_ranges.Tie as tie
 

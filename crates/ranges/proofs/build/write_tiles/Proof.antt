@@ -4,8 +4,9 @@ use Prim.Native.Nat.{_-_, _*_, _<_}
 use native.Mathlib.Omega.{arith}
 use borrow.Author.Needs.{needs}
 use Rattle.rules.specs.Ranges.{tiles}
+use Rattle.rules.proofs.RefusingRanges.{still-ranged}
 use Rattle.rules.proofs.Tiles.{tile-at}
-use Rattle.ranges.proofs.Tiling.{tiles-few, still-ranged, Built, built-first, built-more, built-all}
+use Rattle.rules.proofs.Building.{tiles-few, Built, built-first, built-more, built-all}
 use Rattle.ranges.proofs.build.write_tiles.Statement.{statement}
 use Rattle.ranges.proofs.build.write_tiles.Tie as tie
 

@@ -2,8 +2,7 @@
 use mathlib.Core.Path.{sym, _∙_}
 use native.Mathlib.Omega.{arith}
 use borrow.Author.Needs.{needs}
-use Rattle.rules.proofs.RefusingRanges.{inside-taken, inside-refused, replace-ranges, replace-place}
-use Rattle.ranges.proofs.Passing.{passed}
+use Rattle.rules.proofs.RefusingRanges.{passed, inside-taken, inside-refused, replace-ranges, replace-place}
 use Rattle.ranges.proofs.refusals.replace_refusal.Statement.{statement}
 use Rattle.ranges.proofs.refusals.replace_refusal.Tie as tie
 

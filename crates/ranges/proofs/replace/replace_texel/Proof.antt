@@ -5,12 +5,9 @@ use Prim.Native.Nat.{_+_, _*_}
 use native.Mathlib.Omega.{arith}
 use borrow.Author.Needs.{needs}
 use lib.ListN.{length, length-set}
-use Rattle.rules.specs.Ranges.{replaced, rangeReplaced}
-use Rattle.rules.proofs.RefusingRanges.{Replacing, replace-facts}
+use Rattle.rules.proofs.RefusingRanges.{passed, still-ranged, Replacing, replace-facts, replace-stops, replace-goes}
 use Rattle.rules.proofs.Replacing.{texel-inside}
 use Rattle.rules.proofs.Tiles.{tile-of}
-use Rattle.ranges.proofs.Passing.{passed, replace-stops, replace-goes}
-use Rattle.ranges.proofs.Tiling.{still-ranged}
 use Rattle.ranges.proofs.replace.replace_texel.Statement.{statement}
 use Rattle.ranges.proofs.replace.replace_texel.Tie as tie
 
@@ -51,11 +48,10 @@ same-length-2 : tie.Need-same-length-2
 same-length-2 c = search needs
 
 returns-2 : tie.Need-returns-2
-unfolding replaced rangeReplaced
 returns-2 c =
     let written = c .before .before in
     let past = written .before .before .before in
-    replace-goes _ _ _ _ _ _ _ _ (passed (past .before .replace-refusal .ensures) (past .if1 .left)) refl (written .write-tile .ensures)
+    replace-goes _ _ _ _ _ _ _ _ (passed (past .before .replace-refusal .ensures) (past .if1 .left)) (written .write-tile .ensures)
 
 pub replace-texel-spec : {M : Type 1} → statement M
 replace-texel-spec =

@@ -2,7 +2,7 @@
 use native.Mathlib.Omega.{arith}
 use borrow.Author.Needs.{needs}
 use Rattle.rules.specs.Ranges.{rangesSize}
-use Rattle.ranges.proofs.Tiling.{tiles-few}
+use Rattle.rules.proofs.Building.{tiles-few}
 use Rattle.ranges.proofs.tile.ranges_size.Statement.{statement}
 use Rattle.ranges.proofs.tile.ranges_size.Tie as tie
 

@@ -1,8 +1,11 @@
 -- `ranges::tile::tile_range` meets its contract: the cut of order 0 is not refused, and leaves the tile in front. Assumes nothing.
-use mathlib.Core.Path.{refl}
+use mathlib.Core.Path.{refl, subst}
+use mathlib.Core.List.{List}
+use Prim.Native.Nat.{ℕ}
 use native.Mathlib.Omega.{arith}
 use borrow.Author.Needs.{needs}
-use Rattle.ranges.proofs.Tiling.{tile-small, tile-scanned}
+use Rattle.rules.proofs.Building.{tile-small, tile-cut}
+use Rattle.ranges.specs.Scans.{RangeIs}
 use Rattle.ranges.proofs.tile.tile_range.Statement.{statement}
 use Rattle.ranges.proofs.tile.tile_range.Tie as tie
 
@@ -52,7 +55,9 @@ returns c =
     let down = cut .before .before in
     let across = down .before in
     let start = across .before .before in
-    tile-scanned _ _ _ (start .pre .0) (start .pre .1) refl (across .tile-side .ensures) (down .tile-side2 .ensures) (cut .cut .ensures .1) (c .scan .ensures)
+    subst (λ (t : List ℕ). RangeIs t (c .scan .result))
+    (tile-cut _ _ _ (start .pre .0) (start .pre .1) refl (across .tile-side .ensures) (down .tile-side2 .ensures) (cut .cut .ensures .1))
+    (c .scan .ensures)
 
 pub tile-range-spec : {M : Type 1} → statement M
 tile-range-spec =

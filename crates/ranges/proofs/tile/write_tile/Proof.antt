@@ -4,7 +4,7 @@ use borrow.Author.Needs.{needs}
 use Rattle.rules.specs.Ranges.{rangeStart}
 use Rattle.rules.proofs.Tiles.{tile-number, tile-room}
 use Rattle.ranges.proofs.Scanning.{range-stored}
-use Rattle.ranges.proofs.Tiling.{flat-of, tiles-few}
+use Rattle.rules.proofs.Building.{flat-of, tiles-few}
 use Rattle.ranges.proofs.tile.write_tile.Statement.{statement}
 use Rattle.ranges.proofs.tile.write_tile.Tie as tie
 

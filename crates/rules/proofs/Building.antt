@@ -1,5 +1,5 @@
--- A tile is a cut of order 0, which is never refused: so what the cut leaves at the front of a part of 256 texels is the tile. Tiles
--- that are written one after the other are the front of the ranges. Assumes nothing.
+-- Tiles as they are written. A tile is a cut of order 0, which is never refused: so what the cut leaves at the front of a part of 256
+-- texels is the tile. Tiles that are stored one behind the other are the front of the ranges. Assumes nothing.
 use mathlib.Core.Path.{_≡_, refl, ap, _∙_}
 use mathlib.Core.List.{List, _++_}
 use Prim.Native.Nat.{ℕ, _+_, _-_, _*_, _/_, _%_, _≤_, _<_}
@@ -8,35 +8,30 @@ use native.Mathlib.Numerals.{add-one}
 use native.Mathlib.Omega.{arith}
 use lib.ListN.{length, take, drop, length-append, length-drop}
 use lib.Seq.{sets, length-sets, sets-eq, take-at, drop-append-add, drop-drop}
 use Rattle.rules.specs.declared.Pair.{Pair}
+use Rattle.rules.specs.Kinds.{cubemap}
 use Rattle.rules.specs.Cuts.{cut}
 use Rattle.rules.specs.Ranges.{tiles, tileSide, tile, rangeOf, joined, rangesOf, rangesSize, rangeStart}
 use Rattle.rules.specs.Answers.{cutLeaves}
 use Rattle.rules.proofs.Grid.{length-grid}
 use Rattle.rules.proofs.Bounds.{faces-flat}
-use Rattle.rules.proofs.Refusing.{answer-given}
+use Rattle.rules.proofs.Refusing.{Taken, answer-given}
 use Rattle.rules.proofs.RefusingCuts.{CutCall, cut-taken}
 use Rattle.rules.proofs.RefusingRanges.{Ranged}
 use Rattle.rules.proofs.Tiles.{TileAt, tile-at, tile-room, length-range, length-joined}
-use Rattle.ranges.specs.declared.scan.Range.{Range}
-use Rattle.ranges.specs.Scans.{RangeIs}
-use Rattle.ranges.specs.Tiles.{Flat}
 
 -- ---- one tile
 
--- a picture whose ranges are asked for
+-- a picture that is taken and no cubemap, its level 0 whole in n texels
+pub record Flat (kind w h n : ℕ) : Type 0 where
+  pub taken : Taken kind w h
+  pub flat : kind ≡ cubemap → ⊥
+  pub level0 : h * w ≤ n
+
 pub flat-of : {kind w h n m : ℕ} → Ranged kind w h n m → Flat kind w h n
 flat-of {kind} {w} {h} {n} r =
     let one = faces-flat kind (r .flat) in
     record { taken = r .taken; flat = r .flat; level0 = rw (one, one-mul h) at (r .level0) }
-
--- buffers that are as long serve as well
-pub still-ranged : {kind w h n m n′ m′ : ℕ} → Ranged kind w h n m → n′ ≡ n → m′ ≡ m → Ranged kind w h n′ m′
-still-ranged r en em = rw (en, em) r
-
--- tiles are few
-pub tiles-few : {w h : ℕ} → w ≤ 4096 → h ≤ 4096 → tiles h * tiles w ≤ 65536
-tiles-few lw lh = mul-le-mul {n₂ = 256} {m₂ = 256} (omega arith) (omega arith)
 
 abbrev pub cornerOf : ℕ → ℕ → Pair
 cornerOf i j = record { x = 16 * i; y = 16 * j }
@@ -72,7 +67,7 @@ module _ {kind w h n i j : ℕ} (p : Flat kind w h n) (t : TileAt w h i j) where
       }
 
 -- what the cut leaves in a part of 256 texels begins with the tile
-pub tile-part : {kind w h i j : ℕ} (l part : List ℕ) → Flat kind w h (length l) → TileAt w h i j → length part ≡ 256
+tile-part : {kind w h i j : ℕ} (l part : List ℕ) → Flat kind w h (length l) → TileAt w h i j → length part ≡ 256
     → take (tileSide h j * tileSide w i) (cutLeaves kind w h l 0 (cornerOf i j) (sidesOf w h i j) part) ≡ tile w h l i j
 unfolding cutLeaves tile cut
 tile-part {kind} {w} {h} {i} {j} l part p t long =
@@ -82,13 +77,17 @@ tile-part {kind} {w} {h} {i} {j} l part p t long =
     (take-at (cut w h (16 * i) (16 * j) (tileSide w i) (tileSide h j) l) (drop n part) n
     (length-grid 1 (tileSide w i) (tileSide h j) _ ∙ rw (one-mul (tileSide h j))))
 
--- so what is scanned of it is the tile's range
-pub tile-scanned : {kind w h i j a b : ℕ} {r : Range} (l part made : List ℕ) → Flat kind w h (length l) → TileAt w h i j → length part ≡ 256
+-- the same of sides that were worked out
+pub tile-cut : {kind w h i j a b : ℕ} (l part made : List ℕ) → Flat kind w h (length l) → TileAt w h i j → length part ≡ 256
     → a ≡ tileSide w i → b ≡ tileSide h j → made ≡ cutLeaves kind w h l 0 (cornerOf i j) (record { x = a; y = b }) part
-    → RangeIs (take (b * a) made) r → RangeIs (tile w h l i j) r
-tile-scanned l part made p t long ea eb em has = rw (em, ea, eb, tile-part l part p t long) at has
+    → take (b * a) made ≡ tile w h l i j
+tile-cut l part made p t long ea eb em = rw (em, ea, eb) (tile-part l part p t long)
 
 -- ---- tile after tile
+
+-- tiles are few
+pub tiles-few : {w h : ℕ} → w ≤ 4096 → h ≤ 4096 → tiles h * tiles w ≤ 65536
+tiles-few lw lh = mul-le-mul {n₂ = 256} {m₂ = 256} (omega arith) (omega arith)
 
 -- n tiles are written over old, which has room for all
 pub record Built (w h : ℕ) (l old s : List ℕ) (n : ℕ) : Type 0 where
