@@ -6,8 +6,8 @@ use Prim.Native.Nat.{ℕ, _+_, _-_, _*_, _/_, _%_, _≤_, _<_}
 use native.Mathlib.Nat.{one-mul, mul-suc, mul-le-mul, div-add-mod'}
 use native.Mathlib.Numerals.{add-one}
 use native.Mathlib.Omega.{arith}
-use lib.ListN.{length, take, drop, length-append, length-drop}
-use lib.Seq.{sets, length-sets, sets-eq, take-at, drop-append-add, drop-drop}
+use lib.ListN.{length, take, drop, length-drop}
+use lib.Seq.{sets, length-sets, take-at, drop-drop}
 use Rattle.rules.specs.declared.Pair.{Pair}
 use Rattle.rules.specs.Kinds.{cubemap}
 use Rattle.rules.specs.Cuts.{cut}
@@ -18,7 +18,7 @@ use Rattle.rules.proofs.Bounds.{faces-flat}
 use Rattle.rules.proofs.Refusing.{Taken, answer-given}
 use Rattle.rules.proofs.RefusingCuts.{CutCall, cut-taken}
 use Rattle.rules.proofs.RefusingRanges.{Ranged}
-use Rattle.rules.proofs.Tiles.{TileAt, tile-at, tile-room, length-range, length-joined}
+use Rattle.rules.proofs.Tiles.{length-joined, sets-behind, length-range, TileAt, tile-room, tile-at}
 
 -- ---- one tile
 
@@ -104,12 +104,6 @@ built-first w h l old room = record { room = room; below = omega arith; as-long 
 start-of : (w n : ℕ) → rangeStart w (n % tiles w) (n / tiles w) ≡ 8 * n
 unfolding rangeStart
 start-of w n = ap (λ (k : ℕ). 8 * k) (div-add-mod' n (tiles w))
-
--- stores right behind a first list
-sets-behind : (vs xs ys : List ℕ) (i : ℕ) → length xs ≡ i → length vs ≤ length ys → sets (xs ++ ys) i vs ≡ xs ++ vs ++ drop (length vs) ys
-sets-behind vs xs ys i at room =
-    sets-eq vs (xs ++ ys) i (rw length-append (omega arith))
-    ∙ rw (take-at xs ys i at, ← at, drop-append-add xs ys (length vs))
 
 module _ {w h : ℕ} {l old s : List ℕ} {n : ℕ} (b : Built w h l old s n) where
   -- one tile more, stored behind those that are there

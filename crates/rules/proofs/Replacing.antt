@@ -71,7 +71,7 @@ module _ (kind w h : ℕ) (l ranges : List ℕ) (x y t : ℕ) where
       let p = replace-facts kind w h (length l) (length ranges) x y e .inside in
       drop-set-lt (h * w) l (y * w + x) t (digits-lt (p .down) (p .along))
 
-  -- which is the new one
+  -- its place has the new texel
   pub new-texel : replaceRefusal kind w h (length l) (length ranges) x y ≡ 0 → getD (replaceLeaves kind w h l ranges x y t) (y * w + x) 0 ≡ t
   unfolding replaceLeaves replaced
   new-texel e =
@@ -79,7 +79,7 @@ module _ (kind w h : ℕ) (l ranges : List ℕ) (x y t : ℕ) where
       let lt : y * w + x < length l = texel-inside kind w h (length l) (length ranges) x y r in
       rw (answer-given _ (λ k. l) (set l (y * w + x) t) e) (getD-set-same l (y * w + x) t 0 lt)
 
-  -- and one tile: every byte outside its eight is as found
+  -- it touches one tile: every byte outside its eight is as found
   pub one-tile : (b : ℕ) → (b < rangeStart w (x / 16) (y / 16)) ⊎ (rangeStart w (x / 16) (y / 16) + 8 ≤ b)
       → getD (replaceRangesLeaves kind w h l ranges x y t) b 0 ≡ getD ranges b 0
   unfolding replaceRangesLeaves rangeReplaced
@@ -88,7 +88,7 @@ module _ (kind w h : ℕ) (l ranges : List ℕ) (x y t : ℕ) where
       by-refusal _ ranges _ (λ r. getD r b 0 ≡ getD ranges b 0) refl λ e.
       sets-other range ranges (rangeStart w (x / 16) (y / 16)) b (rw (length-range (tile w h (replaced w l x y t) (x / 16) (y / 16))) outside)
 
-  -- which are the tile's own range, of the picture so changed, whatever they were
+  -- those eight are the tile's own range, of the picture so changed, whatever they were
   pub own-range : replaceRefusal kind w h (length l) (length ranges) x y ≡ 0
       → take 8 (drop (rangeStart w (x / 16) (y / 16)) (replaceRangesLeaves kind w h l ranges x y t))
       ≡ rangeOf (tile w h (replaceLeaves kind w h l ranges x y t) (x / 16) (y / 16))

@@ -4,11 +4,11 @@
 use mathlib.Core.Path.{_≡_, refl, sym, ap, ap₂, _∙_}
 use mathlib.Core.List.{List, [], _∷_, _++_, map, foldr, append-nil}
 use Prim.Native.Nat.{ℕ, zero, suc, _+_, _*_, _/_, _%_, _≤_, _<_, min, max}
-use native.Mathlib.Nat.{mul-suc, mul-zero, mul-le-mul-left, zero-mul, zero-add, mod-lt, div-lt-iff-lt-mul, div-add-mod'}
+use native.Mathlib.Nat.{le-refl, mul-suc, mul-zero, mul-le-mul-left, zero-mul, zero-add, mod-lt, div-lt-iff-lt-mul, div-add-mod'}
 use native.Mathlib.Decide.{decLt}
 use native.Mathlib.Omega.{arith}
 use lib.Arith.{digits-lt, digits-div, digits-mod}
-use lib.ListN.{length, getD, take, set, length-append, length-set}
+use lib.ListN.{length, getD, take, drop, set, length-append, length-set}
 use lib.Seq.{sets, sets-eq, set-append-left, take-at, getD-set-other, getD-take, drop-append-add, drop-length}
 use Rattle.rules.specs.Kinds.{redOf, greenOf, blueOf, alphaOf}
 use Rattle.rules.specs.Levels.{texel}
@@ -62,11 +62,11 @@ sets-left (v ∷ vs) xs ys i le =
     let l = length-set xs i v in
     rw (set-append-left xs ys i v inside) (sets-left vs (set xs i v) ys (suc i) (omega arith))
 
--- stores that are the second list
-pub sets-second : (vs xs ys : List ℕ) (i : ℕ) → length xs ≡ i → length ys ≡ length vs → sets (xs ++ ys) i vs ≡ xs ++ vs
-sets-second vs xs ys i at long =
+-- stores right behind it
+pub sets-behind : (vs xs ys : List ℕ) (i : ℕ) → length xs ≡ i → length vs ≤ length ys → sets (xs ++ ys) i vs ≡ xs ++ vs ++ drop (length vs) ys
+sets-behind vs xs ys i at room =
     sets-eq vs (xs ++ ys) i (rw length-append (omega arith))
-    ∙ rw (take-at xs ys i at, ← long, ← at, drop-append-add xs ys (length ys), drop-length ys) (append-nil (xs ++ vs))
+    ∙ rw (take-at xs ys i at, ← at, drop-append-add xs ys (length vs))
 
 -- of n lists, each k long, the m-th is stored anew
 pub sets-joined : (k n m : ℕ) (f g : ℕ → List ℕ) → ((i : ℕ) → length (f i) ≡ k) → ((i : ℕ) → length (g i) ≡ k)
@@ -85,7 +85,8 @@ sets-joined k (suc n) m f g lf lg lt e =
       | no above ↦
           let last : m ≡ n = omega arith in
           rw last
-          (sets-second (g n) (joined n f) (f n) (k * n) long (lf n ∙ sym (lg n))
+          (sets-behind (g n) (joined n f) (f n) (k * n) long (rw (lf n, lg n) (le-refl k))
+          ∙ rw (lg n, ← (lf n), drop-length (f n)) (append-nil (joined n f ++ g n))
           ∙ ap (λ (a : List ℕ). a ++ g n) (joined-ext n f g (λ i l. e i (omega arith) (λ z. omega arith))))
     ]
 

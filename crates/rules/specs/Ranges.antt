@@ -19,7 +19,7 @@ tileSide s i = min 16 (s - 16 * i)
 unfoldable pub tile : ℕ → ℕ → List ℕ → ℕ → ℕ → List ℕ
 tile w h l i j = cut w h (16 * i) (16 * j) (tileSide w i) (tileSide h j) l
 
--- the smallest and the largest of some bytes
+-- the smallest and the largest of some bytes; of none 255 and 0, but every tile has some
 unfoldable pub smallest : List ℕ → ℕ
 smallest = foldr min 255
 
@@ -54,6 +54,6 @@ rangeStart w i j = 8 * (j * tiles w + i)
 unfoldable pub replaced : ℕ → List ℕ → ℕ → ℕ → ℕ → List ℕ
 replaced w l x y t = set l (y * w + x) t
 
--- the ranges with its own range, worked out of l, for the tile that (x, y) lies in
+-- the ranges with eight bytes worked out of l: those of the tile that (x, y) lies in
 unfoldable pub rangeReplaced : ℕ → ℕ → List ℕ → List ℕ → ℕ → ℕ → List ℕ
 rangeReplaced w h l ranges x y = sets ranges (rangeStart w (x / 16) (y / 16)) (rangeOf (tile w h l (x / 16) (y / 16)))
