@@ -1,4 +1,2 @@
 pub mod Holding
-pub mod Levels
-pub mod Passing
 pub mod Together

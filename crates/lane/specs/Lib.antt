@@ -1,5 +1,3 @@
--- What the one-lane functions ask, the places of four lanes, and the number that an answer passes on.
+-- The places of four lanes, and what is read there.
 pub mod Cubes
-pub mod Held
-pub mod Numbers
 pub mod Reading

@@ -1,8 +1,6 @@
 -- The places of four lanes, and what is read there. Definitions only.
 use mathlib.Core.List.{List}
-use mathlib.Core.Bool.{Bool, _&&_}
 use Prim.Native.Nat.{ℕ, _<_}
-use lib.Dec.{ltb}
 use lib.ListN.{length, getD}
 use Rattle.rules.specs.declared.Lanes.{Lanes}
 use Rattle.rules.specs.declared.Wholes.{Wholes}
@@ -10,49 +8,26 @@ use Rattle.rules.specs.declared.Directions.{Directions}
 use Rattle.rules.specs.declared.Mode.{Mode}
 use Rattle.rules.specs.declared.Plane.{Plane}
 use Rattle.rules.specs.declared.Corners.{Corners}
-use Rattle.rules.specs.declared.Place.{Place}
-use Rattle.rules.specs.declared.Place.the-variants.{At as AtPlace, Refused as NoPlace}
-use Rattle.rules.specs.declared.Colour.{Colour}
-use Rattle.rules.specs.declared.Colour.the-variants.{Rgb as Coloured, Refused as NoColour}
-use Rattle.rules.specs.declared.Alpha.{Alpha}
-use Rattle.rules.specs.declared.Alpha.the-variants.{Of as OfAlpha, Refused as NoAlpha}
 use Rattle.rules.specs.Lanes.{lanesOf, rgbLanes}
-use Rattle.rules.specs.Places.{placeOf, rgbOf, opacityOf}
+use Rattle.rules.specs.Places.{placeOf, nearestPlace, rgbOf, opacityOf}
 use Rattle.rules.specs.Bilinear.{cornersRgb, cornersAlpha}
-use Rattle.places.specs.declared.axis.Axes.{Axes}
 use Rattle.places.specs.Stands.{axesOf}
 use Rattle.lane.specs.declared.reading.Four.{Four}
 use Rattle.lane.specs.declared.reading.FourCorners.{FourCorners}
-use Rattle.lane.specs.declared.reading.Reading.{Reading}
-use Rattle.lane.specs.declared.reading.Reading.the-variants.{At, Refused}
-use Rattle.lane.specs.declared.reading.Squares.{Squares}
-use Rattle.lane.specs.declared.reading.Squares.the-variants.{At as AtSquares, Refused as NoSquares}
 
--- four places in the order of their refusals
-abbrev pub thenReading : Place → (ℕ → Reading) → Reading
-thenReading (AtPlace i) k = k i
-thenReading (NoPlace n) k = Refused n
-
-unfoldable pub readingOf : Place → Place → Place → Place → Reading
-readingOf p q r s =
-    thenReading p (λ a. thenReading q (λ b. thenReading r (λ c. thenReading s (λ d. At (record { a = a; b = b; c = c; d = d })))))
-
--- the four texels of a lane lie inside its level
-unfoldable pub squareInside : Plane → ℕ → ℕ → ℕ → ℕ → ℕ → Bool
-squareInside p f x0 x1 y0 y1 =
-    ltb f (p .faces) && ((ltb x0 (p .width) && ltb y0 (p .height)) && (ltb x1 (p .width) && ltb y1 (p .height)))
-
--- and those of all lanes
-unfoldable pub squaresInside : Plane → Wholes → Axes → Axes → Bool
-squaresInside p f x y =
-    squareInside p (f .a) (x .first .a) (x .second .a) (y .first .a) (y .second .a)
-    && (squareInside p (f .b) (x .first .b) (x .second .b) (y .first .b) (y .second .b)
-    && (squareInside p (f .c) (x .first .c) (x .second .c) (y .first .c) (y .second .c)
-    && squareInside p (f .d) (x .first .d) (x .second .d) (y .first .d) (y .second .d)))
+-- the places of a nearest lookup
+unfoldable pub nearestFour : Plane → Mode → Mode → Lanes → Lanes → Four
+nearestFour p s t u v =
+    record {
+      a = nearestPlace p s t (u .a) (v .a);
+      b = nearestPlace p s t (u .b) (v .b);
+      c = nearestPlace p s t (u .c) (v .c);
+      d = nearestPlace p s t (u .d) (v .d);
+    }
 
 -- a lane's places p00, p10, p01, p11
-unfoldable pub cornersOn : Plane → ℕ → ℕ → ℕ → ℕ → ℕ → Reading
-cornersOn p f x0 x1 y0 y1 = readingOf (placeOf p f x0 y0) (placeOf p f x1 y0) (placeOf p f x0 y1) (placeOf p f x1 y1)
+unfoldable pub cornersOn : Plane → ℕ → ℕ → ℕ → ℕ → ℕ → Four
+cornersOn p f x0 x1 y0 y1 = record { a = placeOf p f x0 y0; b = placeOf p f x1 y0; c = placeOf p f x0 y1; d = placeOf p f x1 y1 }
 
 -- those of four lanes, side by side, and the weights
 abbrev pub besideOf : Four → Four → Four → Four → Lanes → Lanes → FourCorners
@@ -66,28 +41,17 @@ besideOf a b c d fx fy =
       fy = fy;
     }
 
-abbrev pub thenSquares : Reading → (Four → Squares) → Squares
-thenSquares (At f) k = k f
-thenSquares (Refused n) k = NoSquares n
-
-unfoldable pub squaresOf : Reading → Reading → Reading → Reading → Lanes → Lanes → Squares
-squaresOf p q r s fx fy =
-    thenSquares p (λ a. thenSquares q (λ b. thenSquares r (λ c. thenSquares s (λ d. AtSquares (besideOf a b c d fx fy)))))
-
--- from the lanes' texel numbers
-unfoldable pub squaresOn : Plane → Wholes → Axes → Axes → Squares
-squaresOn p f x y =
-    squaresOf
+unfoldable pub squaresAt : Plane → Wholes → Mode → Mode → Lanes → Lanes → FourCorners
+squaresAt p f s t u v =
+    let x = axesOf s u (p .width) in
+    let y = axesOf t v (p .height) in
+    besideOf
     (cornersOn p (f .a) (x .first .a) (x .second .a) (y .first .a) (y .second .a))
     (cornersOn p (f .b) (x .first .b) (x .second .b) (y .first .b) (y .second .b))
     (cornersOn p (f .c) (x .first .c) (x .second .c) (y .first .c) (y .second .c))
     (cornersOn p (f .d) (x .first .d) (x .second .d) (y .first .d) (y .second .d))
     (x .part)
     (y .part)
-
--- and from their coordinates
-unfoldable pub squaresAt : Plane → Wholes → Mode → Mode → Lanes → Lanes → Squares
-squaresAt p f s t u v = squaresOn p f (axesOf s u (p .width)) (axesOf t v (p .height))
 
 -- lane by lane
 abbrev pub cornersA : FourCorners → Corners
@@ -127,20 +91,3 @@ blendedRgb l f = rgbLanes (cornersRgb l (cornersA f)) (cornersRgb l (cornersB f)
 
 unfoldable pub blendedAlpha : List ℕ → FourCorners → Lanes
 blendedAlpha l f = lanesOf (cornersAlpha l (cornersA f)) (cornersAlpha l (cornersB f)) (cornersAlpha l (cornersC f)) (cornersAlpha l (cornersD f))
-
--- or the refusal
-abbrev pub readingColour : Reading → (Four → Directions) → Colour
-readingColour (At f) k = Coloured (k f)
-readingColour (Refused n) k = NoColour n
-
-abbrev pub readingAlpha : Reading → (Four → Lanes) → Alpha
-readingAlpha (At f) k = OfAlpha (k f)
-readingAlpha (Refused n) k = NoAlpha n
-
-abbrev pub squaresColour : Squares → (FourCorners → Directions) → Colour
-squaresColour (AtSquares f) k = Coloured (k f)
-squaresColour (NoSquares n) k = NoColour n
-
-abbrev pub squaresAlpha : Squares → (FourCorners → Lanes) → Alpha
-squaresAlpha (AtSquares f) k = OfAlpha (k f)
-squaresAlpha (NoSquares n) k = NoAlpha n

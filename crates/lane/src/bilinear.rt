@@ -1,11 +1,9 @@
 // The bilinear lookup: the four texels around a coordinate, blended by the two weights.
 use crate::corners::corners;
-use crate::corners::squares_inside;
 use crate::pixel::opacity_four;
 use crate::pixel::rgb_four;
 use crate::reading::FourCorners;
-use crate::reading::Squares;
-use crate::reading::all_squares;
+use crate::reading::as_four;
 use places::axis::four_axes;
 use places::blend::blend;
 use places::blend::blend_alpha;
@@ -20,7 +18,7 @@ ghost use mathlib.Core.Path.{_≡_};
 ghost use Rattle.rules.specs.Lanes.{lanesOf};
 ghost use Rattle.rules.specs.Bilinear.{blendOf};
 ghost use Rattle.rules.proofs.RefusingLookups.{Coordinates};
-ghost use Rattle.lane.specs.Held.{Sized};
+ghost use Rattle.places.specs.Sized.{Sized, Below};
 ghost use Rattle.lane.specs.Reading.{squaresAt, AllWithin, blendedRgb, blendedAlpha};
 
 // The products of four lanes' weights.
@@ -32,20 +30,26 @@ struct FourWeights {
 }
 
 // The places of four lanes, each on its own face.
-pub fn squares(p: Plane, faces: Wholes, s: Mode, t: Mode, u: Lanes, v: Lanes) -> Squares
-    requires { ⌜ Sized p × Coordinates u v ⌝ }
+pub fn squares(p: Plane, faces: Wholes, s: Mode, t: Mode, u: Lanes, v: Lanes) -> FourCorners
+    requires { ⌜ Sized p × Below (p .faces) faces × Coordinates u v ⌝ }
     ensures { λ r. ⌜ r ≡ squaresAt p faces s t u v ⌝ }
 {
     let x = four_axes(s, u, p.width);
     let y = four_axes(t, v, p.height);
-    if !squares_inside(p, faces, x, y) {
-        return Squares::Refused(9);
-    }
     let a = corners(p, faces.a, x.first.a, x.second.a, y.first.a, y.second.a);
     let b = corners(p, faces.b, x.first.b, x.second.b, y.first.b, y.second.b);
     let c = corners(p, faces.c, x.first.c, x.second.c, y.first.c, y.second.c);
     let d = corners(p, faces.d, x.first.d, x.second.d, y.first.d, y.second.d);
-    all_squares(a, b, c, d, x.part, y.part)
+    let fx = x.part;
+    let fy = y.part;
+    FourCorners {
+        p00: as_four(a.a, b.a, c.a, d.a),
+        p10: as_four(a.b, b.b, c.b, d.b),
+        p01: as_four(a.c, b.c, c.c, d.c),
+        p11: as_four(a.d, b.d, c.d, d.d),
+        fx,
+        fy,
+    }
 }
 
 // One channel of four lanes, each blended by its own weights.

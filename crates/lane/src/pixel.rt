@@ -42,7 +42,7 @@ fn rgb_at(texels: &[u32], place: usize) -> Rgb
 }
 
 // The alpha of the texel at a place.
-pub fn opacity_at(texels: &[u32], place: usize) -> f32
+fn opacity_at(texels: &[u32], place: usize) -> f32
     requires { ⌜ place < length (now texels) ⌝ }
     ensures { λ r. ⌜ r ≡ opacityOf (getD (now (texels .entry)) place 0) ⌝ }
 {

@@ -1,8 +1,8 @@
 // A level within a chain.
+use choice::smaller;
 use levels::sizes::faces_of;
 use levels::sizes::side_at;
 use levels::sizes::top_level;
-use places::choice::smaller;
 use rules::Plane;
 ghost use mathlib.Core.Path.{_≡_};
 ghost use Prim.Native.Nat.{_≤_, min};

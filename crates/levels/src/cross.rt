@@ -1,7 +1,7 @@
 // The cube cross, lent as RGBA bytes, row by row: its six faces are cut out in layout order, +X -X +Y -Y +Z -Z.
 use crate::refusals::buffer_refusal;
-use crate::refusals::or_else;
 use crate::refusals::sides_taken;
+use choice::or_else;
 use rules::Filled;
 use texel::bytes::rgba;
 ghost use mathlib.Core.Path.{_≡_};

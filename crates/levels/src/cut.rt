@@ -1,9 +1,9 @@
 // The aligned cut of a picture that is no cubemap: a part of its level 0, as level 0 of a picture of its own.
 use crate::refusals::buffer_refusal;
 use crate::refusals::no_cubemap_refusal;
-use crate::refusals::or_else;
 use crate::refusals::picture_refusal;
 use crate::sizes::faces_of;
+use choice::or_else;
 use reduce::row::put;
 use rules::Filled;
 use rules::Pair;

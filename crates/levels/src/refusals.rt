@@ -2,20 +2,14 @@
 use crate::sizes::faces_of;
 use crate::sizes::top_level;
 use crate::walk::starts_of;
+use choice::or_else;
 ghost use mathlib.Core.Path.{_≡_};
 ghost use mathlib.Core.Bool.{_&&_};
 ghost use Prim.Native.Nat.{_≤_};
 ghost use lib.ListN.{length};
 ghost use Rattle.rules.specs.Kinds.{facesOf};
-ghost use Rattle.rules.specs.Refusals.{_orElse_, sideTaken, kindRefusal, sidesRefusal, bufferRefusal, levelRefusal, noCubemapRefusal, onlyCubemapRefusal, faceRefusal, pictureRefusal, chainRefusal};
+ghost use Rattle.rules.specs.Refusals.{sideTaken, kindRefusal, sidesRefusal, bufferRefusal, levelRefusal, noCubemapRefusal, onlyCubemapRefusal, faceRefusal, pictureRefusal, chainRefusal};
 ghost use Rattle.levels.specs.Starts.{Started};
-
-// The first that is given.
-pub fn or_else(n: u32, m: u32) -> u32
-    ensures { λ r. ⌜ r ≡ (n orElse m) ⌝ }
-{
-    if n == 0 { m } else { n }
-}
 
 // 1: kind above 4.
 pub fn kind_refusal(kind: u32) -> u32

@@ -1,10 +1,11 @@
 // Sides, level numbers, and where each level starts. A level's start is found in at most thirteen steps.
 use crate::refusals::level_refusal;
-use crate::refusals::or_else;
 use crate::refusals::picture_refusal;
+use choice::larger;
+use choice::or_else;
 use rules::Sizes;
 ghost use mathlib.Core.Path.{_≡_};
-ghost use Prim.Native.Nat.{_<_, _≤_, min, max};
+ghost use Prim.Native.Nat.{_<_, _≤_};
 ghost use Rattle.rules.specs.Kinds.{facesOf};
 ghost use Rattle.rules.specs.Sizes.{sideAt, log2, top, sizeAt, start, count};
 ghost use Rattle.rules.specs.Refusals.{levelSizesRefusal};
@@ -27,20 +28,6 @@ pub fn side_at(side: u32, level: u32) -> u32
 {
     let s = side >> level;
     if s < 1 { 1 } else { s }
-}
-
-// The smaller side.
-pub fn smaller(width: u32, height: u32) -> u32
-    ensures { λ r. ⌜ r ≡ min width height ⌝ }
-{
-    if width < height { width } else { height }
-}
-
-// The larger side.
-pub fn larger(width: u32, height: u32) -> u32
-    ensures { λ r. ⌜ r ≡ max width height ⌝ }
-{
-    if width < height { height } else { width }
 }
 
 // floor(log2 n), and 0 at 0.

@@ -2,8 +2,8 @@
 use crate::refusals::chain_refusal;
 use crate::refusals::face_refusal;
 use crate::refusals::level_refusal;
-use crate::refusals::or_else;
 use crate::sizes::level_sizes;
+use choice::or_else;
 use rules::Sizes;
 ghost use mathlib.Core.Path.{_≡_};
 ghost use lib.ListN.{length};

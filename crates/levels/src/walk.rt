@@ -1,6 +1,6 @@
 // Where every level of a chain starts, in one walk over its levels.
-use crate::sizes::larger;
-use crate::sizes::smaller;
+use choice::larger;
+use choice::smaller;
 ghost use mathlib.Core.Path.{_≡_};
 ghost use Prim.Native.Nat.{_+_, _≤_};
 ghost use lib.ListN.{length};

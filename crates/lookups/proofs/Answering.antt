@@ -1,129 +1,88 @@
--- A call's answer from the places that it reads. Past the refusals that it looks at first, the four one-lane answers are one answer from the
--- places of the four (`Together`), and a refusal goes through unchanged. Assumes nothing.
-use mathlib.Core.Path.{_≡_, refl, sym, ap, _∙_}
-use mathlib.Core.Bool.{Bool, true, false, cond}
+-- A call's answer from the places that it reads. Past the refusals the level is one of the picture's, each place is one of the texels that are
+-- lent, and the four one-lane answers are one answer from the places of the four (`Together`). Assumes nothing.
+use mathlib.Core.Path.{_≡_, sym, ap, _∙_, subst}
 use mathlib.Core.List.{List}
-use Prim.Native.Nat.{ℕ, zero, suc}
-use native.Mathlib.Omega.{arith}
-use lib.Dec.{eqb}
+use Prim.Native.Nat.{ℕ, _≤_}
 use lib.ListN.{length}
 use Rattle.rules.specs.declared.Lanes.{Lanes}
 use Rattle.rules.specs.declared.Wholes.{Wholes}
 use Rattle.rules.specs.declared.Directions.{Directions}
 use Rattle.rules.specs.declared.Sampler.{Sampler}
-use Rattle.rules.specs.declared.Spot.{Spot}
 use Rattle.rules.specs.declared.Spots.{Spots}
-use Rattle.rules.specs.declared.Pairing.{Pairing}
-use Rattle.rules.specs.declared.Colour.the-variants.{Refused as NoColour}
-use Rattle.rules.specs.declared.Alpha.the-variants.{Refused as NoAlpha}
-use Rattle.rules.specs.Kinds.{cubemap}
+use Rattle.rules.specs.declared.Colour.the-variants.{Rgb}
+use Rattle.rules.specs.declared.Alpha.the-variants.{Of}
+use Rattle.rules.specs.Kinds.{cubemap, facesOf}
 use Rattle.rules.specs.Sizes.{top}
-use Rattle.rules.specs.Wrapping.{modeOf}
 use Rattle.rules.specs.Footprint.{mipLevelOf}
-use Rattle.rules.specs.Refusals.{sample4Refusal}
-use Rattle.rules.specs.Lanes.{fourPixels}
-use Rattle.rules.specs.Places.{planeOf, nearestRgb, nearestAlpha}
-use Rattle.rules.specs.Cubemap.{spotRgb, cubemapRgb, trilinearRgb}
-use Rattle.rules.specs.Answers.{answer, sample4RgbAnswer, sample4AlphaAnswer, spotsOf}
-use Rattle.rules.proofs.Refusing.{answer-refused, Chained}
-use Rattle.rules.proofs.RefusingLookups.{sample4-facts}
-use Rattle.lane.specs.declared.reading.Four.{Four}
-use Rattle.lane.specs.declared.reading.Reading.{Reading}
-use Rattle.lane.specs.declared.reading.Reading.the-variants.{At, Refused}
-use Rattle.lane.specs.declared.trilinear.Pairings.{Pairings}
-use Rattle.lane.specs.Cubes.{spotA, spotB, spotC, spotD, loweredPlace, pairingsOf, PairBelow, UpTo, partsOf, twoLanes, betweenOf, lerpedRgb, betweenColour}
-use Rattle.lane.specs.Held.{Held}
-use Rattle.lane.specs.Reading.{readingOf, Inside, readRgb, readAlpha, readingColour, readingAlpha}
-use Rattle.lane.proofs.Holding.{nearest-below, cube-below, plane-held}
-use Rattle.lane.proofs.Levels.{two-levels}
-use Rattle.lane.proofs.Together.{no-reading, read-pixels, read-values, lerp-pixels, reading-inside}
-use Rattle.lookups.specs.Reads.{sample4Reading, spotsAt}
-use Rattle.lookups.proofs.Holding.{mip-held}
+use Rattle.rules.specs.Places.{planeOf}
+use Rattle.rules.specs.Refusals.{faceTaken, sample4Refusal, bilinearRgbRefusal, bilinearAlphaRefusal, cubemapRefusal, trilinearRefusal}
+use Rattle.rules.specs.Answers.{spotsAt, sample4RgbAnswer, sample4AlphaAnswer, bilinearRgbAnswer, bilinearAlphaAnswer, cubemapAnswer, trilinearAnswer}
+use Rattle.rules.proofs.Refusing.{Taken, Chained, answer-given}
+use Rattle.rules.proofs.RefusingLookups.{EachWhole, Cubed, face-below}
+use Rattle.places.specs.Sized.{Sized, Below}
+use Rattle.lane.specs.declared.trilinear.TwoLevels.{TwoLevels}
+use Rattle.lane.specs.declared.trilinear.Eight.{Eight}
+use Rattle.lane.specs.Cubes.{cubeFour, twoLevels, lerpColours}
+use Rattle.lane.specs.Reading.{Inside, AllWithin, nearestFour, squaresAt, readRgb, readAlpha, blendedRgb, blendedAlpha}
+use Rattle.lane.proofs.Holding.{plane-sized, nearest-inside, squares-within}
+use Rattle.lane.proofs.Together.{nearest-colours, nearest-alphas, bilinear-colours, bilinear-alphas, cubemap-colours, trilinear-colours}
+use Rattle.lookups.specs.declared.lookup.Wrapped.{Wrapped}
+use Rattle.lookups.specs.Reads.{wrappedOf}
 
--- ---- the nearest lookup
+-- ---- by coordinates: q is level m of the picture, with its modes
+pub faces-below : (kind : ℕ) (f : Wholes) → EachWhole (faceTaken kind) f → Below (facesOf kind) f
+faces-below kind f e =
+    record { in-a = face-below kind _ (e .a); in-b = face-below kind _ (e .b); in-c = face-below kind _ (e .c); in-d = face-below kind _ (e .d) }
 
--- a refusal goes through
-colour-answer : (n : ℕ) (r : Reading) (l : List ℕ) → readingColour (answer n Refused r) (readRgb l) ≡ answer n NoColour (readingColour r (readRgb l))
-unfolding answer
-colour-answer n r l = by (eqb n 0)
-  where
-    by : (b : Bool) → readingColour (cond b r (Refused n)) (readRgb l) ≡ cond b (readingColour r (readRgb l)) (NoColour n)
-    by true = refl
-    by false = refl
+module _ (kind w h m : ℕ) (sampler : Sampler) {q : Wrapped} (e : q ≡ wrappedOf kind w h m sampler) where
+  pub wrapped-sized : Taken kind w h → m ≤ top w h → Sized (q .plane)
+  unfolding wrappedOf
+  wrapped-sized t below = rw e (plane-sized t below)
 
-alpha-answer : (n : ℕ) (r : Reading) (l : List ℕ) → readingAlpha (answer n Refused r) (readAlpha l) ≡ answer n NoAlpha (readingAlpha r (readAlpha l))
-unfolding answer
-alpha-answer n r l = by (eqb n 0)
-  where
-    by : (b : Bool) → readingAlpha (cond b r (Refused n)) (readAlpha l) ≡ cond b (readingAlpha r (readAlpha l)) (NoAlpha n)
-    by true = refl
-    by false = refl
+  pub wrapped-faces : (f : Wholes) → Below (facesOf kind) f → Below (q .plane .faces) f
+  unfolding wrappedOf planeOf
+  wrapped-faces f b = rw e b
 
-module _ (kind w h : ℕ) (l : List ℕ) (sampler : Sampler) (u v steps : Lanes) where
-  pub sample4-rgb-read : sample4RgbAnswer kind w h l sampler u v steps ≡ readingColour (sample4Reading kind w h (length l) sampler u v steps) (readRgb l)
-  unfolding sample4RgbAnswer sample4Reading nearestRgb
-  sample4-rgb-read =
-      sym (colour-answer (sample4Refusal kind w h (length l) sampler u v steps) _ l
-      ∙ ap (answer (sample4Refusal kind w h (length l) sampler u v steps) NoColour) (sym (read-pixels l _ _ _ _)))
+  pub wrapped-nearest : (l : List ℕ) (u v : Lanes) → Chained kind w h (length l) → m ≤ top w h → Inside l (nearestFour (q .plane) (q .s) (q .t) u v)
+  unfolding wrappedOf
+  wrapped-nearest l u v c below = rw e (nearest-inside l m c below _ _ u v)
 
-  pub sample4-alpha-read : sample4AlphaAnswer kind w h l sampler u v steps ≡ readingAlpha (sample4Reading kind w h (length l) sampler u v steps) (readAlpha l)
-  unfolding sample4AlphaAnswer sample4Reading nearestAlpha
-  sample4-alpha-read =
-      sym (alpha-answer (sample4Refusal kind w h (length l) sampler u v steps) _ l
-      ∙ ap (answer (sample4Refusal kind w h (length l) sampler u v steps) NoAlpha) (sym (read-values l _ _ _ _)))
+  pub wrapped-squares : (l : List ℕ) (f : Wholes) (u v : Lanes) → Below (facesOf kind) f → Chained kind w h (length l) → m ≤ top w h → AllWithin l (squaresAt (q .plane) f (q .s) (q .t) u v)
+  unfolding wrappedOf
+  wrapped-squares l f u v b c below = rw e (squares-within l m c below _ _ u v f b)
 
--- an answer that is given was not refused
-not-refused : {r : Reading} {f : Four} (n : ℕ) → answer n Refused r ≡ At f → (n ≡ 0) × (r ≡ At f)
-unfolding answer
-not-refused zero e = (refl, e)
-not-refused {r} {f} (suc n) e = absurd (no-reading (suc n) f (sym (answer-refused (suc n) Refused r (λ z. omega arith)) ∙ e))
+module _ (kind w h : ℕ) (l : List ℕ) (sampler : Sampler) (u v : Lanes) {q : Wrapped} where
+  pub sample4-rgb-read : (steps : Lanes) → sample4Refusal kind w h (length l) sampler u v steps ≡ 0 → q ≡ wrappedOf kind w h (mipLevelOf w h steps) sampler → sample4RgbAnswer kind w h l sampler u v steps ≡ Rgb (readRgb l (nearestFour (q .plane) (q .s) (q .t) u v))
+  unfolding sample4RgbAnswer wrappedOf
+  sample4-rgb-read steps z e = rw e (answer-given _ _ _ z ∙ ap Rgb (nearest-colours l _ _ _ u v))
 
-pub sample4-inside : (kind w h : ℕ) (l : List ℕ) (sampler : Sampler) (u v steps : Lanes) {f : Four} → sample4Reading kind w h (length l) sampler u v steps ≡ At f → Inside l f
-unfolding sample4Reading
-sample4-inside kind w h l sampler u v steps e =
-    let g = not-refused _ e in
-    let p = planeOf kind w h (mipLevelOf w h steps) in
-    let s = modeOf (sampler .«wrap_s») in
-    let t = modeOf (sampler .«wrap_t») in
-    let held : Held l p = mip-held l steps refl refl (sample4-facts kind w h (length l) sampler u v steps (g .0) .chained) in
-    reading-inside _ _ _ _
-    (λ i z. nearest-below s t (u .a) (v .a) held z)
-    (λ i z. nearest-below s t (u .b) (v .b) held z)
-    (λ i z. nearest-below s t (u .c) (v .c) held z)
-    (λ i z. nearest-below s t (u .d) (v .d) held z)
-    (g .1)
+  pub sample4-alpha-read : (steps : Lanes) → sample4Refusal kind w h (length l) sampler u v steps ≡ 0 → q ≡ wrappedOf kind w h (mipLevelOf w h steps) sampler → sample4AlphaAnswer kind w h l sampler u v steps ≡ Of (readAlpha l (nearestFour (q .plane) (q .s) (q .t) u v))
+  unfolding sample4AlphaAnswer wrappedOf
+  sample4-alpha-read steps z e = rw e (answer-given _ _ _ z ∙ ap Of (nearest-alphas l _ _ _ u v))
 
--- ---- the cubemap lookups
+  pub bilinear-rgb-read : (m : ℕ) (f : Wholes) → bilinearRgbRefusal kind w h (length l) sampler u v m f ≡ 0 → q ≡ wrappedOf kind w h m sampler → bilinearRgbAnswer kind w h l sampler u v m f ≡ Rgb (blendedRgb l (squaresAt (q .plane) f (q .s) (q .t) u v))
+  unfolding bilinearRgbAnswer wrappedOf
+  bilinear-rgb-read m f z e = rw e (answer-given _ _ _ z ∙ ap Rgb (bilinear-colours l _ _ _ u v f))
 
-module _ (l : List ℕ) (w h : ℕ) (d : Directions) {s : Spots} (e : s ≡ spotsAt d) where
-  pub cubemap-read : (m : Wholes) → fourPixels (cubemapRgb l w h (d .x .a) (d .y .a) (d .z .a) (m .a)) (cubemapRgb l w h (d .x .b) (d .y .b) (d .z .b) (m .b)) (cubemapRgb l w h (d .x .c) (d .y .c) (d .z .c) (m .c)) (cubemapRgb l w h (d .x .d) (d .y .d) (d .z .d) (m .d)) ≡ readingColour (readingOf (loweredPlace w h (spotA s) (m .a)) (loweredPlace w h (spotB s) (m .b)) (loweredPlace w h (spotC s) (m .c)) (loweredPlace w h (spotD s) (m .d))) (readRgb l)
-  unfolding cubemapRgb spotRgb spotsOf
-  cubemap-read m = rw e (read-pixels l _ _ _ _)
+  pub bilinear-alpha-read : (m : ℕ) → bilinearAlphaRefusal kind w h (length l) sampler u v m ≡ 0 → q ≡ wrappedOf kind w h m sampler → bilinearAlphaAnswer kind w h l sampler u v m ≡ Of (blendedAlpha l (squaresAt (q .plane) (record { a = 0; b = 0; c = 0; d = 0 }) (q .s) (q .t) u v))
+  unfolding bilinearAlphaAnswer wrappedOf
+  bilinear-alpha-read m z e = rw e (answer-given _ _ _ z ∙ ap Of (bilinear-alphas l _ _ _ u v))
 
-  -- two levels of each lane, which are levels of the picture
-  pub trilinear-read : (levels : Lanes) (n : ℕ) {m : Pairings} → n ≡ top w h → m ≡ pairingsOf levels n → UpTo n m → fourPixels (trilinearRgb l w h (d .x .a) (d .y .a) (d .z .a) (levels .a)) (trilinearRgb l w h (d .x .b) (d .y .b) (d .z .b) (levels .b)) (trilinearRgb l w h (d .x .c) (d .y .c) (d .z .c) (levels .c)) (trilinearRgb l w h (d .x .d) (d .y .d) (d .z .d) (levels .d)) ≡ betweenColour (betweenOf (twoLanes w h (spotA s) (m .a) (spotB s) (m .b)) (twoLanes w h (spotC s) (m .c) (spotD s) (m .d))) (λ x. lerpedRgb l x (partsOf m))
-  unfolding spotRgb spotsOf twoLanes pairingsOf
-  trilinear-read levels n t g below =
-      let a = ap (λ (x : Pairings). x .a) g in
-      let b = ap (λ (x : Pairings). x .b) g in
-      let c = ap (λ (x : Pairings). x .c) g in
-      let q = ap (λ (x : Pairings). x .d) g in
-      rw (
-        e,
-        two-levels l w h (d .x .a) (d .y .a) (d .z .a) (levels .a) t a (below .in-a .0) (below .in-a .1) refl,
-        two-levels l w h (d .x .b) (d .y .b) (d .z .b) (levels .b) t b (below .in-b .0) (below .in-b .1) refl,
-        two-levels l w h (d .x .c) (d .y .c) (d .z .c) (levels .c) t c (below .in-c .0) (below .in-c .1) refl,
-        two-levels l w h (d .x .d) (d .y .d) (d .z .d) (levels .d) t q (below .in-d .0) (below .in-d .1) refl,
-      )
-      (lerp-pixels l _ _ _ _ _ _ _ _ _)
+-- ---- by directions: s is where they meet the cube
+pub cube-chained : {kind w h n : ℕ} {d : Directions} → Cubed kind w h n d → Chained cubemap w h n
+cube-chained {w = w} {h = h} {n = n} f = subst (λ (k : ℕ). Chained k w h n) (f .cube) (f .chained)
 
--- the places of two lanes at levels of the picture are texels
-pub two-inside : {l : List ℕ} {w h : ℕ} (s t : Spot) (m n : Pairing) {f : Four} → Chained cubemap w h (length l) → PairBelow (top w h) m → PairBelow (top w h) n → twoLanes w h s m t n ≡ At f → Inside l f
-unfolding twoLanes
-two-inside {l} s t m n c p q e =
-    reading-inside _ _ _ _
-    (λ i z. cube-below s (plane-held l refl c (p .0)) z)
-    (λ i z. cube-below s (plane-held l refl c (p .1)) z)
-    (λ i z. cube-below t (plane-held l refl c (q .0)) z)
-    (λ i z. cube-below t (plane-held l refl c (q .1)) z)
-    e
+module _ (kind w h : ℕ) (l : List ℕ) (d : Directions) {s : Spots} where
+  pub cubemap-read : (m : Wholes) → cubemapRefusal kind w h (length l) d ≡ 0 → s ≡ spotsAt d → cubemapAnswer kind w h l d m ≡ Rgb (readRgb l (cubeFour w h s m))
+  unfolding cubemapAnswer
+  cubemap-read m z e = rw e (answer-given _ _ _ z ∙ ap Rgb (cubemap-colours l w h d m))
+
+  trilinear-read : (levels : Lanes) → trilinearRefusal kind w h (length l) d levels ≡ 0 → s ≡ spotsAt d → let m = twoLevels levels (top w h) in trilinearAnswer kind w h l d levels ≡ Rgb (lerpColours (readRgb l (cubeFour w h s (m .low))) (readRgb l (cubeFour w h s (m .high))) (m .part))
+  unfolding trilinearAnswer
+  trilinear-read levels z e = rw e (answer-given _ _ _ z ∙ ap Rgb (trilinear-colours l w h d levels))
+
+  -- the same from what a call works out in turn: the top level, the two levels, the places, the colours, and the blend
+  pub trilinear-made : (levels : Lanes) → trilinearRefusal kind w h (length l) d levels ≡ 0 → s ≡ spotsAt d → {n : ℕ} {m : TwoLevels} {at : Eight} {low high blend : Directions}
+      → n ≡ top w h → m ≡ twoLevels levels n → at ≡ record { low = cubeFour w h s (m .low); high = cubeFour w h s (m .high) } → low ≡ readRgb l (at .low) → high ≡ readRgb l (at .high) → blend ≡ lerpColours low high (m .part)
+      → Rgb blend ≡ trilinearAnswer kind w h l d levels
+  trilinear-made levels z e i j k p q r = rw (r, p, q, k, j, i) (sym (trilinear-read levels z e))

@@ -1,3 +1,2 @@
 pub mod Answering
-pub mod Holding
 pub mod Passing

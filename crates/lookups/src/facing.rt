@@ -1,6 +1,7 @@
 // Four directions to their faces and the places on them.
-use places::face::spot;
-use places::refusals::directions_refusal;
+use choice::all_counted;
+use choice::unless;
+use places::face::meet;
 use rules::Directions;
 use rules::Facing;
 use rules::Lanes;
@@ -9,10 +10,11 @@ use rules::Spots;
 use rules::Wholes;
 ghost use mathlib.Core.Path.{_≡_};
 ghost use Rattle.rules.specs.Faces.{directionTaken};
-ghost use Rattle.rules.specs.Answers.{spotsOf, facingAnswer};
+ghost use Rattle.rules.specs.Refusals.{directionsRefusal};
+ghost use Rattle.rules.specs.Answers.{spotsOf, spotsAt, facingAnswer};
 ghost use Rattle.rules.proofs.RefusingLookups.{EachDirection};
 ghost use Rattle.lane.specs.Cubes.{AllOnCube};
-ghost use Rattle.lookups.specs.Reads.{spotsAt};
+ghost use Rattle.lookups.specs.Reads.{facingNumber};
 
 // Four places on the cube, lane by lane.
 fn spots(a: Spot, b: Spot, c: Spot, d: Spot) -> Spots
@@ -40,24 +42,44 @@ fn spots(a: Spot, b: Spot, c: Spot, d: Spot) -> Spots
     }
 }
 
-// The face that each of four directions meets, and the place on it.
-pub fn four_spots(directions: Directions) -> Spots
-    ensures { λ r. ⌜ (r ≡ spotsAt directions) × (EachDirection directionTaken directions → AllOnCube r) ⌝ }
-{
-    let a = spot(directions.x.a, directions.y.a, directions.z.a);
-    let b = spot(directions.x.b, directions.y.b, directions.z.b);
-    let c = spot(directions.x.c, directions.y.c, directions.z.c);
-    let d = spot(directions.x.d, directions.y.d, directions.z.d);
-    spots(a, b, c, d)
+// Where four directions meet the cube, and 7 where one of them is not taken, else 0.
+pub struct Meetings {
+    pub spots: Spots,
+    pub refusal: u32,
 }
 
-// The same of directions that are taken.
+// Each direction is looked at once, for its place and for 7.
+pub fn meet_four(n: Directions) -> Meetings
+    ensures { λ r. ⌜ (r .spots ≡ spotsAt n) × (r .refusal ≡ directionsRefusal n) × (EachDirection directionTaken n → AllOnCube (spotsAt n)) ⌝ }
+{
+    let a = meet(n.x.a, n.y.a, n.z.a);
+    let b = meet(n.x.b, n.y.b, n.z.b);
+    let c = meet(n.x.c, n.y.c, n.z.c);
+    let d = meet(n.x.d, n.y.d, n.z.d);
+    Meetings {
+        spots: spots(a.spot, b.spot, c.spot, d.spot),
+        refusal: unless(all_counted(a.taken, b.taken, c.taken, d.taken), 7),
+    }
+}
+
+// Four directions to their faces and the places on them.
 pub fn cubemap_uv_from_normal(directions: Directions) -> Facing
     ensures answer { λ r. ⌜ r ≡ facingAnswer directions ⌝ }
 {
-    let refusal = directions_refusal(directions);
-    if refusal != 0 {
-        return Facing::Refused(refusal);
+    let met = meet_four(directions);
+    if met.refusal != 0 {
+        return Facing::Refused(met.refusal);
     }
-    Facing::On(four_spots(directions))
+    let spots = met.spots;
+    Facing::On(spots)
+}
+
+// The refusal number that a caller passes on, 0 where there is none.
+pub fn facing_number(found: Facing) -> u32
+    ensures { λ r. ⌜ r ≡ facingNumber found ⌝ }
+{
+    match found {
+        Facing::On(_) => 0,
+        Facing::Refused(n) => n,
+    }
 }

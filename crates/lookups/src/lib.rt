@@ -2,6 +2,7 @@
 mod bilinear;
 mod cubemap;
 mod facing;
+mod lookup;
 mod mip;
 mod modes;
 mod nearest;

@@ -1,17 +1,14 @@
-// The refusal number of each call, before a texel is read: the numbers that fit its arguments, in their order. One bad lane
-// refuses all four.
+// The refusal number of each call by coordinates, before a texel is read: the numbers that fit its arguments, in their order. One bad
+// lane refuses all four.
+use choice::or_else;
 use levels::refusals::face_refusal;
 use levels::refusals::level_refusal;
 use levels::refusals::no_cubemap_refusal;
-use levels::refusals::only_cubemap_refusal;
-use levels::refusals::or_else;
 use levels::refusals::sides_refusal;
 use levels::refusals::started_refusal;
 use places::refusals::coordinates_refusal;
-use places::refusals::directions_refusal;
 use places::refusals::finite_refusal;
 use places::refusals::sampler_refusal;
-use rules::Directions;
 use rules::Lanes;
 use rules::Sampler;
 use rules::Wholes;
@@ -19,7 +16,7 @@ ghost use mathlib.Core.Path.{_≡_};
 ghost use Prim.Native.Nat.{_≤_};
 ghost use lib.ListN.{length};
 ghost use Rattle.rules.specs.Kinds.{facesOf};
-ghost use Rattle.rules.specs.Refusals.{_orElse_, samplerRefusal, levelRefusal, coordinatesRefusal, facesRefusal, mipLevelRefusal, sample4Refusal, bilinearRgbRefusal, bilinearAlphaRefusal, cubemapRefusal, trilinearRefusal};
+ghost use Rattle.rules.specs.Refusals.{_orElse_, samplerRefusal, levelRefusal, coordinatesRefusal, facesRefusal, mipLevelRefusal, sample4Refusal, bilinearRgbRefusal, bilinearAlphaRefusal};
 ghost use Rattle.levels.specs.Starts.{Started};
 
 // compute_mip_level: 2, 5.
@@ -122,42 +119,4 @@ pub fn bilinear_alpha_refusal(
     let cube = no_cubemap_refusal(kind);
     let rest = blended_refusal(width, height, sampler, u, v, level);
     or_else(chain, or_else(cube, rest))
-}
-
-// sample_cubemap_rgb: 1, 2, 3, 8, 7.
-pub fn cubemap_refusal(
-    kind: u32,
-    width: u32,
-    height: u32,
-    n: usize,
-    directions: Directions,
-    starts: &mut [u32],
-) -> u32
-    requires { ⌜ 13 ≤ length (now starts) ⌝ }
-    ensures number { λ r. ⌜ r ≡ cubemapRefusal kind width height n directions ⌝ }
-    ensures starts { λ r. ⌜ ((r ≡ 0) → Started (facesOf kind) width height (now (starts .exit))) ⌝ }
-{
-    let chain = started_refusal(kind, width, height, n, starts);
-    let flat = only_cubemap_refusal(kind);
-    let direction = directions_refusal(directions);
-    or_else(chain, or_else(flat, direction))
-}
-
-// sample_cubemap_trilinear_rgb: 1, 2, 3, 8, 7, 5.
-pub fn trilinear_refusal(
-    kind: u32,
-    width: u32,
-    height: u32,
-    n: usize,
-    directions: Directions,
-    levels: Lanes,
-    starts: &mut [u32],
-) -> u32
-    requires { ⌜ 13 ≤ length (now starts) ⌝ }
-    ensures number { λ r. ⌜ r ≡ trilinearRefusal kind width height n directions levels ⌝ }
-    ensures starts { λ r. ⌜ ((r ≡ 0) → Started (facesOf kind) width height (now (starts .exit))) ⌝ }
-{
-    let cube = cubemap_refusal(kind, width, height, n, directions, starts);
-    let numbers = finite_refusal(levels);
-    or_else(cube, numbers)
 }

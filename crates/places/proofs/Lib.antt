@@ -8,6 +8,7 @@ pub mod Spans
 pub mod Pairs
 pub mod Taken
 pub mod Spots
+pub mod CubePlaces
 pub mod Weighing
 pub mod SourceWraps
 pub mod Wraps

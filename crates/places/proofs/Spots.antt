@@ -149,6 +149,3 @@ unfolding spotOf
 on-cube x y z fx fz t =
     let k = parts (magnitude x) (magnitude y) (magnitude z) (subst T (sym (direction-words x y z)) t) in
     inside x y z (magnitude x) (magnitude y) (magnitude z) fx fz (sized x (finite-of-le x (k .x))) (sized y (finite-of-le y (k .y))) (sized z (finite-of-le z (k .z))) k
-
-pub with-cube : (x y z : Float) (r : Spot) → T (fits binary32 x) → T (fits binary32 z) → r ≡ spotOf x y z → (r ≡ spotOf x y z) × (T (directionTaken x y z) → OnCube r)
-with-cube x y z r fx fz e = (e, λ t. subst OnCube (sym e) (on-cube x y z fx fz t))

@@ -12,6 +12,7 @@ use Rattle.rules.specs.Floats.{magnitude}
 use Rattle.rules.specs.Faces.{low60, high60, larger, directionTaken}
 use Rattle.texel.proofs.Range.{le-trans-finite}
 use Rattle.texel.proofs.Total.{le-or-lt, lt-le}
+use Rattle.places.specs.Spots.{sizesTaken}
 use Rattle.places.proofs.Magnitudes.{same-test, le-not, sized}
 
 pub or-l : (a b : Bool) → T a → T (a || b)
@@ -25,10 +26,6 @@ or-r false b t = t
 pub or-split : (a b : Bool) → T (a || b) → T a ⊎ T b
 or-split true b t = inl tt
 or-split false b t = inr t
-
--- each magnitude is at most 2^60, and one is 2^-60 at least
-abbrev pub compared : Float → Float → Float → Bool
-compared ax ay az = le ax high60 && (le ay high60 && (le az high60 && (le low60 ax || (le low60 ay || le low60 az))))
 
 pub finite-of-le : (x : Float) → T (le (magnitude x) high60) → T (finite x)
 unfolding magnitude lt le neg ofBits
@@ -92,7 +89,7 @@ or-assoc true Q R = refl
 or-assoc false Q R = refl
 
 all-finite : (ax ay az : Float) → T (finite ax) → T (finite ay) → T (finite az)
-    → compared ax ay az ≡ not (lt (larger (larger ax ay) az) low60 || lt high60 (larger (larger ax ay) az))
+    → sizesTaken ax ay az ≡ not (lt (larger (larger ax ay) az) low60 || lt high60 (larger (larger ax ay) az))
 all-finite ax ay az X Y Z =
     let m = larger ax ay in
     let M = larger-finite ax ay X Y in
@@ -116,7 +113,7 @@ pub record Compared (ax ay az : Float) : Type 0 where
   pub z : T (le az high60)
   pub one : T (le low60 ax || (le low60 ay || le low60 az))
 
-pub parts : (ax ay az : Float) → T (compared ax ay az) → Compared ax ay az
+pub parts : (ax ay az : Float) → T (sizesTaken ax ay az) → Compared ax ay az
 parts ax ay az t =
     let D = le low60 ax || (le low60 ay || le low60 az) in
     let r = and-r (le ax high60) (le ay high60 && (le az high60 && D)) t in
@@ -128,12 +125,12 @@ parts ax ay az t =
       one = and-r (le az high60) D s;
     }
 
-pub direction-words : (x y z : Float) → compared (magnitude x) (magnitude y) (magnitude z) ≡ directionTaken x y z
+pub direction-words : (x y z : Float) → sizesTaken (magnitude x) (magnitude y) (magnitude z) ≡ directionTaken x y z
 unfolding directionTaken
 direction-words x y z = go (finite x) refl (finite y) refl (finite z) refl
   where
     test : Bool
-    test = compared (magnitude x) (magnitude y) (magnitude z)
+    test = sizesTaken (magnitude x) (magnitude y) (magnitude z)
 
     none : (T test → ⊥) → test ≡ false
     none h = same-test test false h (λ t. absurd t)

@@ -15,17 +15,21 @@ use mir.Syntax.{w32}
 use mir.Val.{toZ, ofZ}
 use mir.ValLaws.{toZ-pos}
 use borrow.Author.Tests.{ltb-false}
+use Rattle.rules.specs.declared.Lanes.{Lanes}
 use Rattle.rules.specs.declared.Mode.{Mode}
 use Rattle.rules.specs.declared.Mode.the-variants.{Repeat, Clamp, Mirror}
 use Rattle.rules.specs.Floats.{Between, zero32, one32, two32, float}
 use Rattle.rules.specs.Whole.{floorOf}
 use Rattle.rules.specs.Wrapping.{remainderOf, heldOf, mirroredOf, wrapOf}
+use Rattle.rules.specs.Bilinear.{axisOf}
+use Rattle.rules.proofs.Inside.{wrap-lt}
 use Rattle.texel.specs.Ends.{low12, high12}
 use Rattle.texel.proofs.Range.{round-le}
 use Rattle.texel.proofs.Unit.{ends}
 use Rattle.texel.proofs.Wholes.{below-zero, int-is}
 use Rattle.places.specs.Sources.{least, most, restSource}
-use Rattle.places.specs.Stands.{Counted}
+use Rattle.places.specs.Sized.{Below}
+use Rattle.places.specs.Stands.{Counted, nearestsOf, axesOf}
 use Rattle.places.proofs.Rests.{rest}
 use Rattle.places.proofs.Wholes.{sub-whole, div-whole, least-whole}
 use Rattle.places.proofs.SourceWraps.{side, last, two-sides, repeated, turned}
@@ -150,10 +154,13 @@ module _ (t : Float) (d : ℕ) (k : Counted t d) (a : 1 ≤ d) (b : d ≤ 4096) 
       subst (Cut (least (most t zero32) (sub binary32 (float d) one32))) (held-is z d)
       (cut _ (min (above z) (d - 1)) (least-whole _ _ (above z) (d - 1) (raised t z value) (last z d a b (k .near))) (omega arith))
 
--- ---- what is wrapped into a side lies in it
-pub wrap-lt : (mode : Mode) (t : ℤ) (d : ℕ) → 1 ≤ d → wrapOf mode t d < d
-unfolding wrapOf heldOf mirroredOf
-wrap-lt Repeat t d h = rest t d h .small
-wrap-lt Clamp (pos n) d h = omega arith
-wrap-lt Clamp (negsuc n) d h = h
-wrap-lt Mirror t d h = omega arith
+-- ---- four lanes' wrapped numbers lie in their side
+pub nearests-below : (mode : Mode) (u : Lanes) (w : ℕ) → 1 ≤ w → Below w (nearestsOf mode u w)
+unfolding nearestsOf
+nearests-below mode u w h = let at : (t : ℤ) → wrapOf mode t w < w = λ t. wrap-lt mode t w h in record { in-a = at _; in-b = at _; in-c = at _; in-d = at _ }
+
+pub axes-below : (mode : Mode) (u : Lanes) (w : ℕ) → 1 ≤ w → Below w (axesOf mode u w .first) × Below w (axesOf mode u w .second)
+unfolding axesOf axisOf
+axes-below mode u w h =
+    let at : (t : ℤ) → wrapOf mode t w < w = λ t. wrap-lt mode t w h in
+    (record { in-a = at _; in-b = at _; in-c = at _; in-d = at _ }, record { in-a = at _; in-b = at _; in-c = at _; in-d = at _ })

@@ -1,3 +1,4 @@
 pub mod Spots
+pub mod Sized
 pub mod Sources
 pub mod Stands

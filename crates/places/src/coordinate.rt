@@ -1,5 +1,5 @@
 // The coordinates that a lookup takes.
-use crate::choice::both;
+use choice::both;
 ghost use mathlib.Core.Path.{_≡_};
 ghost use Rattle.rules.specs.Refusals.{coordinateTaken};
 

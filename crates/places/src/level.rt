@@ -1,6 +1,6 @@
 // The footprint of four steps, and the level that it asks for.
-use crate::choice::pick;
-use crate::choice::smaller;
+use choice::pick;
+use choice::smaller;
 use rules::Lanes;
 ghost use mathlib.Core.Path.{_≡_};
 ghost use Prim.Native.Nat.{_≤_};

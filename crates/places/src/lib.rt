@@ -1,7 +1,6 @@
 // Where a lookup reads: the numbers of one lane, with no texel read.
 pub mod axis;
 pub mod blend;
-pub mod choice;
 pub mod coordinate;
 pub mod cube;
 pub mod face;

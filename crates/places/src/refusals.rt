@@ -1,22 +1,18 @@
 // The refusals of four lanes: one bad lane refuses all four.
-use crate::choice::all_counted;
-use crate::choice::all_four;
-use crate::choice::both;
-use crate::choice::or_else;
-use crate::choice::unless;
 use crate::coordinate::coordinate_taken;
-use crate::face::direction_taken;
 use crate::level::is_finite;
 use crate::wrap::wrap_code;
-use rules::Directions;
+use choice::all_four;
+use choice::both;
+use choice::or_else;
+use choice::unless;
 use rules::Lanes;
 use rules::Sampler;
 use rules::Wrap;
 ghost use mathlib.Core.Path.{_≡_};
 ghost use lib.Ieee.Scale.{finite};
-ghost use Rattle.rules.specs.Lanes.{inLanes, inDirections};
-ghost use Rattle.rules.specs.Refusals.{coordinateTaken, wrapRefusal, samplerRefusal, coordinatesRefusal, finiteRefusal, directionsRefusal};
-ghost use Rattle.rules.specs.Faces.{directionTaken};
+ghost use Rattle.rules.specs.Lanes.{inLanes};
+ghost use Rattle.rules.specs.Refusals.{coordinateTaken, wrapRefusal, samplerRefusal, coordinatesRefusal, finiteRefusal};
 
 // Whether each of four coordinates is taken.
 fn coordinates_taken(u: Lanes) -> bool
@@ -54,24 +50,6 @@ pub fn finite_refusal(l: Lanes) -> u32
     ensures { λ r. ⌜ r ≡ finiteRefusal l ⌝ }
 {
     unless(all_finite(l), 5)
-}
-
-// Whether each of four directions is taken.
-fn directions_taken(x: Lanes, y: Lanes, z: Lanes) -> bool
-    ensures { λ r. ⌜ r ≡ inDirections directionTaken (record { x = x; y = y; z = z }) ⌝ }
-{
-    let a = direction_taken(x.a, y.a, z.a);
-    let b = direction_taken(x.b, y.b, z.b);
-    let c = direction_taken(x.c, y.c, z.c);
-    let d = direction_taken(x.d, y.d, z.d);
-    all_counted(a, b, c, d)
-}
-
-// 7: a direction component not finite, or the largest magnitude below 2^-60 or above 2^60.
-pub fn directions_refusal(n: Directions) -> u32
-    ensures { λ r. ⌜ r ≡ directionsRefusal n ⌝ }
-{
-    unless(directions_taken(n.x, n.y, n.z), 7)
 }
 
 // 4: wrap code unknown.

@@ -1,5 +1,5 @@
 // A wrap code to a mode, and texel numbers wrapped into a side: f32 numbers that are whole, so that four lanes are wrapped side by side.
-use crate::choice::pick;
+use choice::pick;
 use rules::Lanes;
 use rules::Mode;
 use rules::Wholes;

@@ -10,7 +10,7 @@ use Rattle.rules.specs.Curve.{curvePattern, curve, greatestUpTo, encodeOf}
 use Rattle.rules.specs.Reducing.{eachOf, meanByte, linearOf, normalByte, normalOf, roughByte, metallicOf, srgbByte, srgbOf, reduceOf}
 use Rattle.rules.specs.Pictures.{filledOf}
 use Rattle.rules.specs.Floats.{magnitude}
-use Rattle.rules.specs.Lanes.{inLanes, inDirections, fourPixels}
+use Rattle.rules.specs.Lanes.{inLanes, inDirections}
 use Rattle.rules.specs.Wrapping.{wrapCode, remainderOf, heldOf, mirroredOf, wrapOf}
 use Rattle.rules.specs.Whole.{floorOf}
 use Rattle.rules.specs.Footprint.{footprintOf, fourOf, mipLevelOf}
@@ -33,7 +33,7 @@ unfolding levelSizesAnswer chainLeaves mipLevelAnswer spotsOf facingAnswer sampl
     tab grid texel quad next chain filled filledOf
     units reaches found rootPattern sqrtOf curvePattern curve greatestUpTo encodeOf
     eachOf meanByte linearOf normalByte normalOf roughByte metallicOf srgbByte srgbOf reduceOf
-    magnitude inLanes inDirections fourPixels wrapCode remainderOf heldOf mirroredOf wrapOf floorOf footprintOf fourOf mipLevelOf
+    magnitude inLanes inDirections wrapCode remainderOf heldOf mirroredOf wrapOf floorOf footprintOf fourOf mipLevelOf
     planeOf placeOf rgbOf nearestOf nearestPlace nearestRgb directionTaken signOf oddOf spotAt spotOf
     add sub mul div neg lt le ofBits ofInt toUnsigned
 reference =

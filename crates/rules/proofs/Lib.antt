@@ -6,6 +6,7 @@ pub mod Refusing
 pub mod RefusingCuts
 pub mod RefusingLookups
 pub mod Bounds
+pub mod Inside
 pub mod RefusingRanges
 pub mod Tiles
 pub mod Building

@@ -20,9 +20,9 @@ use Rattle.rules.specs.declared.Written.the-variants.{Bytes, Refused as 
 use Rattle.rules.specs.declared.Level.{Level as LevelAnswer}
 use Rattle.rules.specs.declared.Level.the-variants.{At, Refused as NoLevel}
 use Rattle.rules.specs.declared.Colour.{Colour}
-use Rattle.rules.specs.declared.Colour.the-variants.{Refused as NoColour}
+use Rattle.rules.specs.declared.Colour.the-variants.{Rgb as Coloured, Refused as NoColour}
 use Rattle.rules.specs.declared.Alpha.{Alpha}
-use Rattle.rules.specs.declared.Alpha.the-variants.{Refused as NoAlpha}
+use Rattle.rules.specs.declared.Alpha.the-variants.{Of as OfAlpha, Refused as NoAlpha}
 use Rattle.rules.specs.declared.Facing.{Facing}
 use Rattle.rules.specs.declared.Facing.the-variants.{On, Refused as NoFacing}
 use Rattle.rules.specs.Kinds.{facesOf}
@@ -31,7 +31,7 @@ use Rattle.rules.specs.Cuts.{cut}
 use Rattle.rules.specs.View.{faceView}
 use Rattle.rules.specs.Pictures.{filledOf}
 use Rattle.rules.specs.Cross.{crossWidth, crossHeight, crossOf}
-use Rattle.rules.specs.Lanes.{lanesOf, fourPixels, fourValues}
+use Rattle.rules.specs.Lanes.{lanesOf, rgbLanes}
 use Rattle.rules.specs.Wrapping.{modeOf}
 use Rattle.rules.specs.Footprint.{mipLevelOf}
 use Rattle.rules.specs.Places.{planeOf, nearestRgb, nearestAlpha}
@@ -96,7 +96,7 @@ sample4RgbAnswer kind w h l sampler u v steps =
     let s = modeOf (sampler .«wrap_s») in
     let t = modeOf (sampler .«wrap_t») in
     answer (sample4Refusal kind w h (length l) sampler u v steps) NoColour
-    (fourPixels (nearestRgb l p s t (u .a) (v .a)) (nearestRgb l p s t (u .b) (v .b)) (nearestRgb l p s t (u .c) (v .c)) (nearestRgb l p s t (u .d) (v .d)))
+    (Coloured (rgbLanes (nearestRgb l p s t (u .a) (v .a)) (nearestRgb l p s t (u .b) (v .b)) (nearestRgb l p s t (u .c) (v .c)) (nearestRgb l p s t (u .d) (v .d))))
 
 unfoldable pub sample4AlphaAnswer : ℕ → ℕ → ℕ → List ℕ → Sampler → Lanes → Lanes → Lanes → Alpha
 sample4AlphaAnswer kind w h l sampler u v steps =
@@ -104,7 +104,7 @@ sample4AlphaAnswer kind w h l sampler u v steps =
     let s = modeOf (sampler .«wrap_s») in
     let t = modeOf (sampler .«wrap_t») in
     answer (sample4Refusal kind w h (length l) sampler u v steps) NoAlpha
-    (fourValues (nearestAlpha l p s t (u .a) (v .a)) (nearestAlpha l p s t (u .b) (v .b)) (nearestAlpha l p s t (u .c) (v .c)) (nearestAlpha l p s t (u .d) (v .d)))
+    (OfAlpha (lanesOf (nearestAlpha l p s t (u .a) (v .a)) (nearestAlpha l p s t (u .b) (v .b)) (nearestAlpha l p s t (u .c) (v .c)) (nearestAlpha l p s t (u .d) (v .d))))
 
 unfoldable pub bilinearRgbAnswer : ℕ → ℕ → ℕ → List ℕ → Sampler → Lanes → Lanes → ℕ → Wholes → Colour
 bilinearRgbAnswer kind w h l sampler u v m f =
@@ -112,7 +112,7 @@ bilinearRgbAnswer kind w h l sampler u v m f =
     let s = modeOf (sampler .«wrap_s») in
     let t = modeOf (sampler .«wrap_t») in
     answer (bilinearRgbRefusal kind w h (length l) sampler u v m f) NoColour
-    (fourPixels (bilinearRgb l p (f .a) s t (u .a) (v .a)) (bilinearRgb l p (f .b) s t (u .b) (v .b)) (bilinearRgb l p (f .c) s t (u .c) (v .c)) (bilinearRgb l p (f .d) s t (u .d) (v .d)))
+    (Coloured (rgbLanes (bilinearRgb l p (f .a) s t (u .a) (v .a)) (bilinearRgb l p (f .b) s t (u .b) (v .b)) (bilinearRgb l p (f .c) s t (u .c) (v .c)) (bilinearRgb l p (f .d) s t (u .d) (v .d))))
 
 unfoldable pub bilinearAlphaAnswer : ℕ → ℕ → ℕ → List ℕ → Sampler → Lanes → Lanes → ℕ → Alpha
 bilinearAlphaAnswer kind w h l sampler u v m =
@@ -120,7 +120,7 @@ bilinearAlphaAnswer kind w h l sampler u v m =
     let s = modeOf (sampler .«wrap_s») in
     let t = modeOf (sampler .«wrap_t») in
     answer (bilinearAlphaRefusal kind w h (length l) sampler u v m) NoAlpha
-    (fourValues (bilinearAlpha l p s t (u .a) (v .a)) (bilinearAlpha l p s t (u .b) (v .b)) (bilinearAlpha l p s t (u .c) (v .c)) (bilinearAlpha l p s t (u .d) (v .d)))
+    (OfAlpha (lanesOf (bilinearAlpha l p s t (u .a) (v .a)) (bilinearAlpha l p s t (u .b) (v .b)) (bilinearAlpha l p s t (u .c) (v .c)) (bilinearAlpha l p s t (u .d) (v .d))))
 
 -- four directions to their faces and the places on them
 unfoldable pub spotsOf : Spot → Spot → Spot → Spot → Spots
@@ -131,28 +131,29 @@ spotsOf a b c d =
       faces = record { a = a .face; b = b .face; c = c .face; d = d .face };
     }
 
+abbrev pub spotsAt : Directions → Spots
+spotsAt n = spotsOf (spotOf (n .x .a) (n .y .a) (n .z .a)) (spotOf (n .x .b) (n .y .b) (n .z .b)) (spotOf (n .x .c) (n .y .c) (n .z .c)) (spotOf (n .x .d) (n .y .d) (n .z .d))
+
 unfoldable pub facingAnswer : Directions → Facing
-facingAnswer n =
-    answer (directionsRefusal n) NoFacing
-    (On (spotsOf (spotOf (n .x .a) (n .y .a) (n .z .a)) (spotOf (n .x .b) (n .y .b) (n .z .b)) (spotOf (n .x .c) (n .y .c) (n .z .c)) (spotOf (n .x .d) (n .y .d) (n .z .d))))
+facingAnswer n = answer (directionsRefusal n) NoFacing (On (spotsAt n))
 
 unfoldable pub cubemapAnswer : ℕ → ℕ → ℕ → List ℕ → Directions → Wholes → Colour
 cubemapAnswer kind w h l n m =
     answer (cubemapRefusal kind w h (length l) n) NoColour
-    (fourPixels
+    (Coloured (rgbLanes
     (cubemapRgb l w h (n .x .a) (n .y .a) (n .z .a) (m .a))
     (cubemapRgb l w h (n .x .b) (n .y .b) (n .z .b) (m .b))
     (cubemapRgb l w h (n .x .c) (n .y .c) (n .z .c) (m .c))
-    (cubemapRgb l w h (n .x .d) (n .y .d) (n .z .d) (m .d)))
+    (cubemapRgb l w h (n .x .d) (n .y .d) (n .z .d) (m .d))))
 
 unfoldable pub trilinearAnswer : ℕ → ℕ → ℕ → List ℕ → Directions → Lanes → Colour
 trilinearAnswer kind w h l n m =
     answer (trilinearRefusal kind w h (length l) n m) NoColour
-    (fourPixels
+    (Coloured (rgbLanes
     (trilinearRgb l w h (n .x .a) (n .y .a) (n .z .a) (m .a))
     (trilinearRgb l w h (n .x .b) (n .y .b) (n .z .b) (m .b))
     (trilinearRgb l w h (n .x .c) (n .y .c) (n .z .c) (m .c))
-    (trilinearRgb l w h (n .x .d) (n .y .d) (n .z .d) (m .d)))
+    (trilinearRgb l w h (n .x .d) (n .y .d) (n .z .d) (m .d))))
 
 -- build_ranges fills the ranges' front and answers the bytes written
 unfoldable pub rangesAnswer : ℕ → ℕ → ℕ → List ℕ → List ℕ → Written

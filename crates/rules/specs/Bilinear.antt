@@ -9,15 +9,7 @@ use Rattle.rules.specs.declared.Plane.{Plane}
 use Rattle.rules.specs.declared.Axis.{Axis}
 use Rattle.rules.specs.declared.Corners.{Corners}
 use Rattle.rules.specs.declared.Weights.{Weights}
-use Rattle.rules.specs.declared.Place.{Place}
-use Rattle.rules.specs.declared.Place.the-variants.{At as AtPlace, Refused as NoPlace}
-use Rattle.rules.specs.declared.Square.{Square}
-use Rattle.rules.specs.declared.Square.the-variants.{At, Refused}
 use Rattle.rules.specs.declared.Rgb.{Rgb}
-use Rattle.rules.specs.declared.Pixel.{Pixel}
-use Rattle.rules.specs.declared.Pixel.the-variants.{Of as OfPixel, Refused as NoPixel}
-use Rattle.rules.specs.declared.Value.{Value}
-use Rattle.rules.specs.declared.Value.the-variants.{Of as OfValue, Refused as NoValue}
 use Rattle.rules.specs.Floats.{half32, float, restOf}
 use Rattle.rules.specs.Whole.{floorOf}
 use Rattle.rules.specs.Wrapping.{wrapOf}
@@ -36,21 +28,20 @@ axisOf mode x w =
       part = sub binary32 x (ofInt binary32 (floorOf x));
     }
 
-abbrev pub thenSquare : Place → (ℕ → Square) → Square
-thenSquare (AtPlace i) k = k i
-thenSquare (NoPlace n) k = Refused n
-
 -- the four places p00, p10, p01, p11 of face f, and the weights
-unfoldable pub cornersOf : Plane → ℕ → Axis → Axis → Square
+unfoldable pub cornersOf : Plane → ℕ → Axis → Axis → Corners
 cornersOf p f x y =
-    thenSquare (placeOf p f (x .first) (y .first)) (λ p00.
-    thenSquare (placeOf p f (x .second) (y .first)) (λ p10.
-    thenSquare (placeOf p f (x .first) (y .second)) (λ p01.
-    thenSquare (placeOf p f (x .second) (y .second)) (λ p11.
-    At (record { p00 = p00; p10 = p10; p01 = p01; p11 = p11; fx = x .part; fy = y .part })))))
+    record {
+      p00 = placeOf p f (x .first) (y .first);
+      p10 = placeOf p f (x .second) (y .first);
+      p01 = placeOf p f (x .first) (y .second);
+      p11 = placeOf p f (x .second) (y .second);
+      fx = x .part;
+      fy = y .part;
+    }
 
-unfoldable pub squareAt : Plane → ℕ → Mode → Mode → Float → Float → Square
-squareAt p f s t u v =
+unfoldable pub cornersAt : Plane → ℕ → Mode → Mode → Float → Float → Corners
+cornersAt p f s t u v =
     cornersOf p f (axisOf s (spanOf u (p .width)) (p .width)) (axisOf t (spanOf v (p .height)) (p .height))
 
 -- each corner's weight product
@@ -97,18 +88,9 @@ unfoldable pub cornersAlpha : List ℕ → Corners → Float
 cornersAlpha l c =
     blendAlpha (c .fx) (c .fy) (opacityOf (getD l (c .p00) 0)) (opacityOf (getD l (c .p10) 0)) (opacityOf (getD l (c .p01) 0)) (opacityOf (getD l (c .p11) 0))
 
--- takes the places out of the lookup's answer, or passes the refusal on
-abbrev pub squarePixel : Square → (Corners → Rgb) → Pixel
-squarePixel (At c) k = OfPixel (k c)
-squarePixel (Refused n) k = NoPixel n
-
-abbrev pub squareValue : Square → (Corners → Float) → Value
-squareValue (At c) k = OfValue (k c)
-squareValue (Refused n) k = NoValue n
-
 -- one lane of the bilinear lookups
-unfoldable pub bilinearRgb : List ℕ → Plane → ℕ → Mode → Mode → Float → Float → Pixel
-bilinearRgb l p f s t u v = squarePixel (squareAt p f s t u v) (cornersRgb l)
+unfoldable pub bilinearRgb : List ℕ → Plane → ℕ → Mode → Mode → Float → Float → Rgb
+bilinearRgb l p f s t u v = cornersRgb l (cornersAt p f s t u v)
 
-unfoldable pub bilinearAlpha : List ℕ → Plane → Mode → Mode → Float → Float → Value
-bilinearAlpha l p s t u v = squareValue (squareAt p 0 s t u v) (cornersAlpha l)
+unfoldable pub bilinearAlpha : List ℕ → Plane → Mode → Mode → Float → Float → Float
+bilinearAlpha l p s t u v = cornersAlpha l (cornersAt p 0 s t u v)

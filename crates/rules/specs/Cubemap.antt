@@ -6,31 +6,28 @@ use lib.IntN.{natAbs}
 use lib.ListN.{getD}
 use lib.Ieee.{Float, binary32, add, sub, mul, lt, ofInt}
 use Rattle.rules.specs.declared.Plane.{Plane}
-use Rattle.rules.specs.declared.Place.{Place}
 use Rattle.rules.specs.declared.Spot.{Spot}
 use Rattle.rules.specs.declared.Pairing.{Pairing}
 use Rattle.rules.specs.declared.Rgb.{Rgb}
-use Rattle.rules.specs.declared.Pixel.{Pixel}
-use Rattle.rules.specs.declared.Pixel.the-variants.{Of, Refused}
 use Rattle.rules.specs.Kinds.{cubemap}
 use Rattle.rules.specs.Sizes.{top}
 use Rattle.rules.specs.Floats.{zero32, float}
 use Rattle.rules.specs.Whole.{floorOf, evenOf}
-use Rattle.rules.specs.Places.{planeOf, placeOf, pixelAt, rgbOf}
+use Rattle.rules.specs.Places.{planeOf, placeOf, rgbOf}
 use Rattle.rules.specs.Faces.{spotOf}
 
 -- the nearest cubemap texel along a side: round(u * (width - 1)), a half to the even neighbour
 unfoldable pub cubeTexel : Float → ℕ → ℕ
 cubeTexel u w = evenOf (mul binary32 u (float (w - 1)))
 
-unfoldable pub cubePlace : Plane → Spot → Place
+unfoldable pub cubePlace : Plane → Spot → ℕ
 cubePlace p s = placeOf p (s .face) (cubeTexel (s .u) (p .width)) (cubeTexel (s .v) (p .height))
 
-unfoldable pub spotRgb : List ℕ → Plane → Spot → Pixel
-spotRgb l p s = pixelAt (cubePlace p s) (λ i. Of (rgbOf (getD l i 0)))
+unfoldable pub spotRgb : List ℕ → Plane → Spot → Rgb
+spotRgb l p s = rgbOf (getD l (cubePlace p s) 0)
 
 -- one lane of the cubemap lookup: the level is lowered to the top level
-unfoldable pub cubemapRgb : List ℕ → ℕ → ℕ → Float → Float → Float → ℕ → Pixel
+unfoldable pub cubemapRgb : List ℕ → ℕ → ℕ → Float → Float → Float → ℕ → Rgb
 cubemapRgb l w h x y z m = spotRgb l (planeOf cubemap w h (min m (top w h))) (spotOf x y z)
 
 -- a fractional level held to 0..top
@@ -51,16 +48,10 @@ lerpOf c0 c1 t = add binary32 c0 (mul binary32 (sub binary32 c1 c0) t)
 unfoldable pub lerpRgb : Rgb → Rgb → Float → Rgb
 lerpRgb p q t = record { r = lerpOf (p .r) (q .r) t; g = lerpOf (p .g) (q .g) t; b = lerpOf (p .b) (q .b) t }
 
-abbrev pub andPixel : Pixel → (Rgb → Pixel) → Pixel
-andPixel (Of p) k = k p
-andPixel (Refused n) k = Refused n
-
 -- the colours of the two levels, blended
-unfoldable pub betweenLevels : List ℕ → ℕ → ℕ → Float → Float → Float → Pairing → Pixel
-betweenLevels l w h x y z m =
-    andPixel (cubemapRgb l w h x y z (m .low)) (λ c0.
-    andPixel (cubemapRgb l w h x y z (m .high)) (λ c1. Of (lerpRgb c0 c1 (m .part))))
+unfoldable pub betweenLevels : List ℕ → ℕ → ℕ → Float → Float → Float → Pairing → Rgb
+betweenLevels l w h x y z m = lerpRgb (cubemapRgb l w h x y z (m .low)) (cubemapRgb l w h x y z (m .high)) (m .part)
 
 -- one lane of the trilinear lookup
-unfoldable pub trilinearRgb : List ℕ → ℕ → ℕ → Float → Float → Float → Float → Pixel
+unfoldable pub trilinearRgb : List ℕ → ℕ → ℕ → Float → Float → Float → Float → Rgb
 trilinearRgb l w h x y z m = betweenLevels l w h x y z (pairingOf m (top w h))

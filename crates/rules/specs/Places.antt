@@ -1,21 +1,13 @@
 -- The places that a lookup reads, and what it makes of a texel. In texel places width and height are those of the level read.
 -- Definitions only.
-use mathlib.Core.Bool.{cond, _&&_}
 use mathlib.Core.List.{List}
-use Prim.Native.Nat.{ℕ, _+_, _*_}
-use lib.Dec.{ltb}
+use Prim.Native.Nat.{ℕ, _+_, _*_, _<_}
 use lib.IntN.{ℤ}
 use lib.ListN.{getD}
 use lib.Ieee.{Float, binary32, mul}
 use Rattle.rules.specs.declared.Mode.{Mode}
 use Rattle.rules.specs.declared.Plane.{Plane}
-use Rattle.rules.specs.declared.Place.{Place}
-use Rattle.rules.specs.declared.Place.the-variants.{At, Refused}
 use Rattle.rules.specs.declared.Rgb.{Rgb}
-use Rattle.rules.specs.declared.Pixel.{Pixel}
-use Rattle.rules.specs.declared.Pixel.the-variants.{Of as OfPixel, Refused as NoPixel}
-use Rattle.rules.specs.declared.Value.{Value}
-use Rattle.rules.specs.declared.Value.the-variants.{Of as OfValue, Refused as NoValue}
 use Rattle.rules.specs.Kinds.{facesOf, redOf, greenOf, blueOf, alphaOf}
 use Rattle.rules.specs.Sizes.{sideAt, start}
 use Rattle.rules.specs.Floats.{float, unpackOf}
@@ -26,21 +18,15 @@ use Rattle.rules.specs.Wrapping.{wrapOf}
 unfoldable pub planeOf : ℕ → ℕ → ℕ → ℕ → Plane
 planeOf kind w h m = record { start = start (facesOf kind) w h m; faces = facesOf kind; width = sideAt m w; height = sideAt m h }
 
--- texel (x, y) of face f as a place in the chain, or refusal 9: a texel place outside its level
-unfoldable pub placeOf : Plane → ℕ → ℕ → ℕ → Place
-placeOf p f x y =
-    cond (ltb f (p .faces) && (ltb x (p .width) && ltb y (p .height)))
-    (At (p .start + ((f * p .height + y) * p .width + x)))
-    (Refused 9)
+-- texel (x, y) of face f as a place in the chain
+unfoldable pub placeOf : Plane → ℕ → ℕ → ℕ → ℕ
+placeOf p f x y = p .start + ((f * p .height + y) * p .width + x)
 
--- takes the place out of a lookup's answer, or passes the refusal on
-abbrev pub pixelAt : Place → (ℕ → Pixel) → Pixel
-pixelAt (At i) k = k i
-pixelAt (Refused n) k = NoPixel n
-
-abbrev pub valueAt : Place → (ℕ → Value) → Value
-valueAt (At i) k = k i
-valueAt (Refused n) k = NoValue n
+-- it lies inside its level
+pub record InLevel (p : Plane) (f x y : ℕ) : Type 0 where
+  pub face : f < p .faces
+  pub across : x < p .width
+  pub down : y < p .height
 
 -- what a texel is to a lookup: its channels unpacked
 unfoldable pub rgbOf : ℕ → Rgb
@@ -53,13 +39,13 @@ opacityOf t = unpackOf (alphaOf t)
 unfoldable pub nearestOf : Float → ℕ → ℤ
 nearestOf u w = floorOf (mul binary32 u (float w))
 
-unfoldable pub nearestPlace : Plane → Mode → Mode → Float → Float → Place
+unfoldable pub nearestPlace : Plane → Mode → Mode → Float → Float → ℕ
 nearestPlace p s t u v =
     placeOf p 0 (wrapOf s (nearestOf u (p .width)) (p .width)) (wrapOf t (nearestOf v (p .height)) (p .height))
 
 -- one lane of the nearest lookup
-unfoldable pub nearestRgb : List ℕ → Plane → Mode → Mode → Float → Float → Pixel
-nearestRgb l p s t u v = pixelAt (nearestPlace p s t u v) (λ i. OfPixel (rgbOf (getD l i 0)))
+unfoldable pub nearestRgb : List ℕ → Plane → Mode → Mode → Float → Float → Rgb
+nearestRgb l p s t u v = rgbOf (getD l (nearestPlace p s t u v) 0)
 
-unfoldable pub nearestAlpha : List ℕ → Plane → Mode → Mode → Float → Float → Value
-nearestAlpha l p s t u v = valueAt (nearestPlace p s t u v) (λ i. OfValue (opacityOf (getD l i 0)))
+unfoldable pub nearestAlpha : List ℕ → Plane → Mode → Mode → Float → Float → Float
+nearestAlpha l p s t u v = opacityOf (getD l (nearestPlace p s t u v) 0)

@@ -93,7 +93,7 @@ faceRefusal kind f = unless (faceTaken kind f) 8
 unfoldable pub facesRefusal : ℕ → Wholes → ℕ
 facesRefusal kind faces = unless (inWholes (faceTaken kind) faces) 8
 
--- 9 is given by a place (`placeOf`). 10: a cross whose face sides fall outside 1 to 4,096
+-- 9 is retired and never used again. 10: a cross whose face sides fall outside 1 to 4,096
 unfoldable pub crossSidesRefusal : ℕ → ℕ → ℕ
 crossSidesRefusal w h = unless (sideTaken (crossWidth w) && sideTaken (crossHeight h)) 10
 

@@ -108,27 +108,11 @@ pub struct Plane {
     pub height: usize,
 }
 
-// A texel's place in the chain.
-pub enum Place {
-    At(usize),
-    Refused(u32),
-}
-
 // One lane's colour.
 pub struct Rgb {
     pub r: f32,
     pub g: f32,
     pub b: f32,
-}
-
-pub enum Pixel {
-    Of(Rgb),
-    Refused(u32),
-}
-
-pub enum Value {
-    Of(f32),
-    Refused(u32),
 }
 
 // Two texel numbers along a side, wrapped, and how far the coordinate lies from the first to the second.
@@ -146,11 +130,6 @@ pub struct Corners {
     pub p11: usize,
     pub fx: f32,
     pub fy: f32,
-}
-
-pub enum Square {
-    At(Corners),
-    Refused(u32),
 }
 
 // The four products of the weights.

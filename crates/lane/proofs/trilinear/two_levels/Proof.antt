@@ -1,7 +1,8 @@
--- `lane::trilinear::two_levels` meets its contract. Assumes nothing.
+-- `lane::trilinear::two_levels` meets its contract: no level is above 12. Assumes nothing.
 use mathlib.Core.Path.{sym, subst}
+use native.Mathlib.Omega.{arith}
 use lib.Dec.{T}
-use Rattle.lane.specs.Cubes.{pairingsOf}
+use Rattle.lane.specs.Cubes.{twoLevels}
 use Rattle.lane.proofs.trilinear.two_levels.Statement.{statement}
 use Rattle.lane.proofs.trilinear.two_levels.Tie as tie
 
@@ -17,16 +18,50 @@ pairing-requires-3 c κs = let p = c .before .before .pre in (subst T (sym (p .0
 pairing-requires-4 : tie.Need-pairing-requires-4
 pairing-requires-4 c κs = let p = c .before .before .before .pre in (subst T (sym (p .0 .d)) tt, p .1)
 
+cast-t7 : tie.Need-cast-t7
+cast-t7 c = let d = c .before in let a = d .before .before .before in omega (arith, a .before .pre .1, a .pairing .ensures .1)
+
+cast-t8 : tie.Need-cast-t8
+cast-t8 c = let d = c .before .before in let b = d .before .before in omega (arith, b .before .before .pre .1, b .pairing2 .ensures .1)
+
+cast-t9 : tie.Need-cast-t9
+cast-t9 c = let d = c .before .before .before in let k = d .before in omega (arith, k .before .before .before .pre .1, k .pairing3 .ensures .1)
+
+cast-t10 : tie.Need-cast-t10
+cast-t10 c = let d = c .before .before .before .before in omega (arith, d .before .before .before .before .pre .1, d .pairing4 .ensures .1)
+
+cast-t12 : tie.Need-cast-t12
+cast-t12 c = let d = c .before .before .before .before .before in let a = d .before .before .before in omega (arith, a .before .pre .1, a .pairing .ensures .2)
+
+cast-t13 : tie.Need-cast-t13
+cast-t13 c = let d = c .before .before .before .before .before .before in let b = d .before .before in omega (arith, b .before .before .pre .1, b .pairing2 .ensures .2)
+
+cast-t14 : tie.Need-cast-t14
+cast-t14 c = let d = c .before .before .before .before .before .before .before in let k = d .before in omega (arith, k .before .before .before .pre .1, k .pairing3 .ensures .2)
+
+cast-t15 : tie.Need-cast-t15
+cast-t15 c = let d = c .before .before .before .before .before .before .before .before in omega (arith, d .before .before .before .before .pre .1, d .pairing4 .ensures .2)
+
 returns : tie.Need-returns
-unfolding pairingsOf
-returns c = let q = c .before .before in
-    let a = q .before .pairing .ensures in
-    let b = q .pairing2 .ensures in
-    let r = c .before .pairing3 .ensures in
-    let d = c .pairing4 .ensures in
-    (rw (a .0, b .0, r .0, d .0), record { in-a = (a .1, a .2); in-b = (b .1, b .2); in-c = (r .1, r .2); in-d = (d .1, d .2) })
+unfolding twoLevels
+returns c =
+    let d = c .before .before .before .before .before .before .before .before in
+    rw (d .before .before .before .pairing .ensures .0, d .before .before .pairing2 .ensures .0, d .before .pairing3 .ensures .0, d .pairing4 .ensures .0)
 
 pub two-levels-spec : {M : Type 1} → statement M
 two-levels-spec =
     tie.close
-    (tie.spec pairing-requires pairing-requires-2 pairing-requires-3 pairing-requires-4 returns)
+    (tie.spec
+    pairing-requires
+    pairing-requires-2
+    pairing-requires-3
+    pairing-requires-4
+    cast-t7
+    cast-t8
+    cast-t9
+    cast-t10
+    cast-t12
+    cast-t13
+    cast-t14
+    cast-t15
+    returns)

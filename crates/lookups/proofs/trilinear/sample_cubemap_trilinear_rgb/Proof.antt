@@ -1,53 +1,69 @@
--- `lookups::trilinear::sample_cubemap_trilinear_rgb` meets its contract: past the refusals the answer comes from the places that it reads. Assumes nothing.
-use mathlib.Core.Path.{_≡_, sym, ap, _∙_}
+-- `lookups::trilinear::sample_cubemap_trilinear_rgb` meets its contract: past the refusals the answer comes from the places that it reads.
+-- Assumes nothing.
+use mathlib.Core.Path.{_≡_, sym, _∙_, subst}
 use native.Mathlib.Omega.{arith}
 use lib.ListN.{length}
-use lib.Ieee.Scale.{finite}
-use Rattle.rules.specs.declared.Colour.the-variants.{Rgb}
-use Rattle.rules.specs.Sizes.{top}
-use Rattle.rules.specs.Answers.{trilinearAnswer}
+use Rattle.rules.specs.Refusals.{cubemapRefusal, trilinearRefusal}
+use Rattle.rules.specs.Answers.{spotsAt, trilinearAnswer}
 use Rattle.rules.proofs.Bounds.{taken-top}
-use Rattle.rules.proofs.RefusingLookups.{Cubed, EachLane, trilinear-facts}
-use Rattle.lane.specs.Cubes.{UpTo, spotA, spotB, spotC, spotD, partsOf, twoLanes, betweenOf, lerpedRgb, betweenColour}
-use Rattle.lane.proofs.Passing.{between-passed}
-use Rattle.lane.proofs.Together.{between-given}
-use Rattle.lookups.proofs.Holding.{cube-chained}
-use Rattle.lookups.proofs.Passing.{refuses, gives}
-use Rattle.lookups.proofs.Answering.{trilinear-read, two-inside}
+use Rattle.rules.proofs.Refusing.{orElse-zero, orElse-given, orElse-taken}
+use Rattle.rules.proofs.RefusingLookups.{Cubed, cubemap-facts, finite-facts}
+use Rattle.lane.specs.Cubes.{AllOnCube}
+use Rattle.lane.proofs.Holding.{cubes-inside}
+use Rattle.lookups.proofs.Answering.{cube-chained, trilinear-made}
+use Rattle.lookups.proofs.Passing.{refuses, facing-given, facing-refused}
 use borrow.Author.Needs.{needs}
 use Rattle.lookups.proofs.trilinear.sample_cubemap_trilinear_rgb.Statement.{statement}
 use Rattle.lookups.proofs.trilinear.sample_cubemap_trilinear_rgb.Tie as tie
 
 -- past the refusals
-facts : (c : tie.Else1) → let a = c .before .before .before .before .before .args in Cubed (a .kind) (a .width) (a .height) (length (a .texels .now)) (a .directions) × EachLane finite (a .levels)
-facts c = trilinear-facts _ _ _ _ _ _ (sym (c .before .before .trilinear-refusal .ensures .0) ∙ c .if1 .left)
+module _ (c : tie.After-known-told) where
+  abbrev asked : tie.Start
+  asked = c .before .before .before .before .before .before .before
 
--- the two levels of each lane
-module _ (c : tie.After-two-levels) where
-  abbrev past : tie.Else1
-  past = c .before .before .before
+  given : let a = asked .args in (cubemapRefusal (a .kind) (a .width) (a .height) (length (a .texels .now)) (a .directions) ≡ 0) × (c .before .found .given .0 .0 ≡ spotsAt (a .directions))
+  given = facing-given _ (c .before .before .before .before .cubemap-facing .ensures .0) (c .before .found .given .1)
 
-  below : let a = past .before .before .before .before .before .args in UpTo (top (a .width) (a .height)) (c .two-levels .result)
-  below = rw (← c .before .top-level .ensures) (c .two-levels .ensures .1)
+  facts : let a = asked .args in Cubed (a .kind) (a .width) (a .height) (length (a .texels .now)) (a .directions)
+  facts = cubemap-facts _ _ _ _ _ (given .0)
 
-  answered : let a = past .before .before .before .before .before .args in let s = c .before .before .four-spots .result in let m = c .two-levels .result in let w = a .width in let h = a .height in trilinearAnswer (a .kind) w h (a .texels .now) (a .directions) (a .levels) ≡ betweenColour (betweenOf (twoLanes w h (spotA s) (m .a) (spotB s) (m .b)) (twoLanes w h (spotC s) (m .c) (spotD s) (m .d))) (λ x. lerpedRgb (a .texels .now) x (partsOf m))
-  unfolding trilinearAnswer
-  answered =
-      let t = c .two-levels .ensures in
-      gives _ _ (past .before .before .trilinear-refusal .ensures .0) (past .if1 .left) ∙ trilinear-read _ _ _ _ (c .before .before .four-spots .ensures .0) _ _ (c .before .top-level .ensures) (t .0) (t .1)
+  met : AllOnCube (c .before .found .given .0 .0)
+  met = subst AllOnCube (sym (given .1)) (c .before .before .before .before .cubemap-facing .ensures .1 (given .0) .1)
 
-slice-aggregate-trilinear-refusal : tie.Need-slice-aggregate-trilinear-refusal
-slice-aggregate-trilinear-refusal c = search needs
+none : (c : tie.Else1) → let a = asked (c .before .before) .args in trilinearRefusal (a .kind) (a .width) (a .height) (length (a .texels .now)) (a .directions) (a .levels) ≡ 0
+unfolding trilinearRefusal
+none c = orElse-taken _ _ (given (c .before .before) .0) (sym (c .before .finite-refusal .ensures) ∙ c .if1 .left)
 
-trilinear-refusal-requires : tie.Need-trilinear-refusal-requires
-trilinear-refusal-requires c κs = search needs
+slice-aggregate-cubemap-facing : tie.Need-slice-aggregate-cubemap-facing
+slice-aggregate-cubemap-facing c = search needs
+
+cubemap-facing-requires : tie.Need-cubemap-facing-requires
+cubemap-facing-requires c κs = search needs
+
+enum-known-found : tie.Need-enum-known-found
+enum-known-found c = search needs
+
+enum-told : tie.Need-enum-told
+enum-told c = search needs
+
+facing-number-requires : tie.Need-facing-number-requires
+facing-number-requires c κs = search needs
 
 returns : tie.Need-returns
-unfolding trilinearAnswer
-returns c = refuses _ _ (c .before .before .trilinear-refusal .ensures .0) (c .if1 .taken)
+unfolding trilinearAnswer trilinearRefusal
+returns c =
+    let f = c .before .before .before .before in
+    let r = facing-refused _ (f .cubemap-facing .ensures .0) (c .before .enum-told .given .1) (c .facing-number .ensures) in
+    refuses _ _ (r .0 ∙ sym (orElse-given _ _ (λ z. r .1 (r .0 ∙ z)))) (r .1)
 
-four-spots-requires : tie.Need-four-spots-requires
-four-spots-requires c κs = search needs
+finite-refusal-requires : tie.Need-finite-refusal-requires
+finite-refusal-requires c κs = search needs
+
+returns-2 : tie.Need-returns-2
+unfolding trilinearAnswer trilinearRefusal
+returns-2 c =
+    let k = c .before .before in
+    refuses _ _ (c .before .finite-refusal .ensures ∙ sym (orElse-zero _ _ (given k .0))) (c .if1 .taken)
 
 top-level-requires : tie.Need-top-level-requires
 top-level-requires c κs = search needs
@@ -56,60 +72,58 @@ cast-two-levels : tie.Need-cast-two-levels
 cast-two-levels c = search needs
 
 two-levels-requires : tie.Need-two-levels-requires
-two-levels-requires c κs = let f = facts (c .before .before) in (f .1, omega (arith, c .top-level .ensures, taken-top (f .0 .chained .taken)))
+two-levels-requires c κs =
+    let e = c .before in
+    (finite-facts _ (sym (e .before .finite-refusal .ensures) ∙ e .if1 .left), omega (arith, c .top-level .ensures, taken-top (facts (e .before .before) .chained .taken)))
 
 slice-aggregate-level-places : tie.Need-slice-aggregate-level-places
 slice-aggregate-level-places c = search needs
 
 level-places-requires : tie.Need-level-places-requires
-level-places-requires c κs = let k = c .before in
-    let s = k .before .before in
-    let e = s .before in
-    let f = facts e .0 in
-    (cube-chained f .taken, rw (← f .cube) (e .before .before .trilinear-refusal .ensures .1 (e .if1 .left)), s .four-spots .ensures .1 (f .directions), below k)
+level-places-requires c κs =
+    let k = c .before .before .before .before .before in
+    (cube-chained (facts k) .taken, rw (← facts k .cube) (k .before .before .before .before .cubemap-facing .ensures .1 (given k .0) .0), met k)
 
-enum-known-found : tie.Need-enum-known-found
-enum-known-found c = search needs
+rgb-four-requires : tie.Need-rgb-four-requires
+rgb-four-requires c κs =
+    let k = c .before .before .before .before .before .before in
+    rw (c .level-places .ensures) (cubes-inside _ _ _ (cube-chained (facts k)) (met k))
 
-enum-told : tie.Need-enum-told
-enum-told c = search needs
-
-between-number-requires : tie.Need-between-number-requires
-between-number-requires c κs = search needs
-
-returns-2 : tie.Need-returns-2
-returns-2 c = let k = c .before .before .before in
-    rw (answered (k .before .before), between-passed (k .level-places .ensures) (c .before .enum-told .given .1) (c .between-number .ensures))
+rgb-four-requires-2 : tie.Need-rgb-four-requires-2
+rgb-four-requires-2 c κs =
+    let k = c .before .before .before .before .before .before .before in
+    rw (c .before .level-places .ensures) (cubes-inside _ _ _ (cube-chained (facts k)) (met k))
 
 lerp-four-requires : tie.Need-lerp-four-requires
-lerp-four-requires c κs = let k = c .before .before .before in
-    let m = k .before .before in
-    let chain = cube-chained (facts (m .before .before .before) .0) in
-    let b = below m in
-    let g = between-given _ _ (sym (k .level-places .ensures) ∙ c .before .found .given .1) in
-    (two-inside _ _ _ _ chain (b .in-a) (b .in-b) (g .0), two-inside _ _ _ _ chain (b .in-c) (b .in-d) (g .1))
+lerp-four-requires c κs = search needs
 
 returns-3 : tie.Need-returns-3
-returns-3 c = let f = c .before .before in
-    let k = f .before .before in
-    rw (answered (k .before .before), sym (k .level-places .ensures) ∙ f .found .given .1) (ap Rgb (c .lerp-four .ensures))
+returns-3 c =
+    let h = c .before in
+    let p = h .before .before in
+    let m = p .before .before in
+    let e = m .before .before in
+    let k = e .before .before in
+    trilinear-made _ _ _ _ _ _ (none e) (given k .1) (m .before .top-level .ensures) (m .two-levels .ensures) (p .level-places .ensures) (h .before .rgb-four .ensures) (h .rgb-four2 .ensures) (c .lerp-four .ensures)
 
 pub sample-cubemap-trilinear-rgb-spec : {M : Type 1} → statement M
 sample-cubemap-trilinear-rgb-spec =
     tie.close
     (tie.spec
-    slice-aggregate-trilinear-refusal
-    trilinear-refusal-requires
+    slice-aggregate-cubemap-facing
+    cubemap-facing-requires
+    enum-known-found
+    enum-told
+    facing-number-requires
     returns
-    four-spots-requires
+    finite-refusal-requires
+    returns-2
     top-level-requires
     cast-two-levels
     two-levels-requires
     slice-aggregate-level-places
     level-places-requires
-    enum-known-found
-    enum-told
-    between-number-requires
-    returns-2
+    rgb-four-requires
+    rgb-four-requires-2
     lerp-four-requires
     returns-3)

@@ -1,19 +1,8 @@
 -- `places::face::spot` meets its contract: the choice value by value is the choice of the place. Assumes nothing.
-use mathlib.Core.Path.{sym, subst}
-use lib.Dec.{T}
-use Rattle.places.proofs.Spots.{spot-chosen, with-cube}
+use Rattle.places.proofs.Spots.{spot-chosen}
 use borrow.Author.Needs.{needs}
 use Rattle.places.proofs.face.spot.Statement.{statement}
 use Rattle.places.proofs.face.spot.Tie as tie
-
-magnitude-requires : tie.Need-magnitude-requires
-magnitude-requires c κs = search needs
-
-magnitude-requires-2 : tie.Need-magnitude-requires-2
-magnitude-requires-2 c κs = search needs
-
-magnitude-requires-3 : tie.Need-magnitude-requires-3
-magnitude-requires-3 c κs = search needs
 
 both-requires : tie.Need-both-requires
 both-requires c κs = search needs
@@ -83,10 +72,8 @@ returns c =
     let p = m .before .before in
     let q = p .before .before .before in
     let b = q .before .before .before .before in
-    let a = b .before .before in
-    let s = a .before .before .before in
-    with-cube (s .args .x) (s .args .y) (s .args .z) _ (subst T (sym (s .good .0 .1)) tt) (subst T (sym (s .good .1 .1 .0 .1)) tt)
-    (rw (
+    let s = b .before .before in
+    rw (
       c .on-face2 .ensures,
       c .before .on-face .ensures,
       f .pick-face2 .ensures,
@@ -105,19 +92,16 @@ returns c =
       q .before .before .before .sign .ensures,
       b .both2 .ensures,
       b .before .both .ensures,
-      a .magnitude3 .ensures,
-      a .before .magnitude2 .ensures,
-      a .before .before .magnitude .ensures,
+      s .pre .0,
+      s .pre .1,
+      s .pre .2,
     )
-    (spot-chosen (s .args .x) (s .args .y) (s .args .z)))
+    (spot-chosen (s .args .x) (s .args .y) (s .args .z))
 
 pub spot-spec : {M : Type 1} → statement M
 spot-spec =
     tie.close
     (tie.spec
-    magnitude-requires
-    magnitude-requires-2
-    magnitude-requires-3
     both-requires
     both-requires-2
     sign-requires

@@ -1,33 +1,21 @@
--- `places::place::place` meets its contract: the same tests in the same order. Assumes nothing.
-use borrow.Author.Tests.{lt-ltb, le-ltb}
+-- `places::place::place` meets its contract: face, column and row are inside the level. Assumes nothing.
 use Rattle.rules.specs.Places.{placeOf}
-use borrow.Author.Needs.{needs}
+use native.Mathlib.Omega.{arith}
 use Rattle.places.proofs.place.place.Statement.{statement}
 use Rattle.places.proofs.place.place.Tie as tie
 
 inside-requires : tie.Need-inside-requires
-inside-requires c κs = search needs
+inside-requires c κs =
+    let z = c .pre .0 in
+    let i = c .pre .1 in
+    (omega (arith, i .face, z .most-faces), i .across, i .down, z .most-w, z .most-h)
 
-add-t9 : tie.Need-add-t9
-add-t9 c = search needs
+add-result : tie.Need-add-result
+add-result c = omega (arith, c .before .before .pre .0 .most-start, c .before .inside .ensures .1)
 
 returns : tie.Need-returns
 unfolding placeOf
-returns c =
-    let d = c .before .before in
-    rw (lt-ltb _ _ (d .before .before .before .before .if1 .taken), lt-ltb _ _ (d .before .before .if2 .taken), lt-ltb _ _ (d .if3 .taken), c .before .inside .ensures .0)
-
-returns-2 : tie.Need-returns-2
-unfolding placeOf
-returns-2 c = rw (lt-ltb _ _ (c .before .before .before .before .if1 .taken), lt-ltb _ _ (c .before .before .if2 .taken), le-ltb _ _ (c .if3 .left))
-
-returns-3 : tie.Need-returns-3
-unfolding placeOf
-returns-3 c = rw (lt-ltb _ _ (c .before .before .if1 .taken), le-ltb _ _ (c .if2 .left))
-
-returns-4 : tie.Need-returns-4
-unfolding placeOf
-returns-4 c = rw (le-ltb _ _ (c .if1 .left))
+returns c = rw (c .before .inside .ensures .0)
 
 pub place-spec : {M : Type 1} → statement M
-place-spec = tie.close (tie.spec inside-requires add-t9 returns returns-2 returns-3 returns-4)
+place-spec = tie.close (tie.spec inside-requires add-result returns)
