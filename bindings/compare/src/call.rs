@@ -2,6 +2,7 @@
 
 use crate::plain::{Cut, Lanes, Lent, Replacement};
 use crate::unit::{Directions, Picture, Unit};
+use std::panic::{catch_unwind, AssertUnwindSafe};
 
 /// The names of the calls, in the order of swathecold.h.
 pub const NAMES: [&str; 15] = [
@@ -136,6 +137,9 @@ impl<'a> Call<'a> {
 /// What stands where nothing was written.
 pub const UNTOUCHED: u32 = 0xC5C5_5C5C;
 
+/// What one that panicked answered.
+pub const PANICKED: u32 = u32::MAX;
+
 /// Texels or bytes lent to nobody behind each lent buffer.
 const BEHIND: usize = 16;
 
@@ -199,12 +203,14 @@ fn lend<'a, T: Copy>(buffer: &'a mut Vec<T>, before: &[T], behind: T) -> &'a mut
     &mut buffer[..before.len()]
 }
 
-/// Asks a unit one call. The outcome's buffers are used again, so that many calls take no new memory.
+/// Asks a unit one call. The outcome's buffers are used again, so that many calls take no new memory. A panic is an
+/// answer too, so that one that reads outside its texels is seen as any other that is wrong.
 pub fn ask(unit: &dyn Unit, call: &Call, outcome: &mut Outcome) {
     let lent = lend(&mut outcome.buffer, call.before(), UNTOUCHED);
     let ranges = lend(&mut outcome.ranges, call.ranges_before(), UNTOUCHED as u8);
     let words = &mut outcome.words;
-    outcome.refusal = match call {
+    *words = [UNTOUCHED; 16];
+    let answered = AssertUnwindSafe(|| match call {
         Call::LevelSizes {
             kind,
             width,
@@ -223,10 +229,7 @@ pub fn ask(unit: &dyn Unit, call: &Call, outcome: &mut Outcome) {
         }),
         Call::Cut { source, cut, .. } => wide::<1>(words, |written| unit.cut(source, cut, lent, &mut written[0])),
         Call::LevelView { picture, level, face } => wide(words, |part| unit.level_view(picture, *level, *face, part)),
-        Call::ComputeMipLevel { width, height, steps } => {
-            *words = [UNTOUCHED; 16];
-            unit.compute_mip_level(*width, *height, steps, &mut words[0])
-        }
+        Call::ComputeMipLevel { width, height, steps } => unit.compute_mip_level(*width, *height, steps, &mut words[0]),
         Call::BuildRanges { picture, .. } => wide::<1>(words, |written| {
             let copied = Lent {
                 texels: lent,
@@ -238,12 +241,10 @@ pub fn ask(unit: &dyn Unit, call: &Call, outcome: &mut Outcome) {
             picture: p,
             replacement,
             ..
-        } => {
-            *words = [UNTOUCHED; 16];
-            unit.replace_texel(p.kind, p.width, p.height, lent, ranges, replacement)
-        }
+        } => unit.replace_texel(p.kind, p.width, p.height, lent, ranges, replacement),
         _ => ask_lookup(unit, call, words),
-    };
+    });
+    outcome.refusal = catch_unwind(answered).unwrap_or(PANICKED);
 }
 
 /// Asks a lookup that answers floats.

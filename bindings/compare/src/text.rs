@@ -1,6 +1,6 @@
 //! A call and a difference in words, so that a person can make the call again.
 
-use crate::call::{Call, Outcome};
+use crate::call::{Call, Outcome, PANICKED};
 use crate::plain::{Lanes, Lent};
 use crate::unit::Directions;
 use std::fmt::{Display, Formatter, Result, Write};
@@ -159,7 +159,7 @@ fn lookup_arguments(call: &Call) -> String {
 pub fn first_difference(reading: &Outcome, other: &Outcome) -> String {
     let mut text = String::new();
     if reading.refusal != other.refusal {
-        let _ = write!(text, "answers {} for {}; ", other.refusal, reading.refusal);
+        let _ = write!(text, "{} for {}; ", answered(other.refusal), reading.refusal);
     }
     if let Some(i) = first(&reading.words, &other.words) {
         let (a, b) = (reading.words[i], other.words[i]);
@@ -174,6 +174,14 @@ pub fn first_difference(reading: &Outcome, other: &Outcome) -> String {
         let _ = write!(text, "byte {i} of the ranges left is {b:02X} for {a:02X}; ");
     }
     text
+}
+
+/// A number that was answered, in words.
+pub fn answered(number: u32) -> String {
+    match number {
+        PANICKED => "panics".to_string(),
+        _ => format!("answers {number}"),
+    }
 }
 
 /// The first place where two rows differ.
