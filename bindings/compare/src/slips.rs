@@ -71,10 +71,10 @@ slips! {
     CrossOrder { const CROSS: [(u32, u32); 6] = [(2, 1), (0, 1), (1, 2), (1, 0), (1, 1), (3, 1)]; }
 
     /// Refusal 4 before 8.
-    FourBeforeEight { const ORDER: [u32; 9] = [1, 2, 3, 4, 8, 6, 7, 5, 9]; }
+    FourBeforeEight { const ORDER: [u32; 8] = [1, 2, 3, 4, 8, 6, 7, 5]; }
 
     /// Refusal 5 before 6 and 7, in the order of the numbers.
-    FiveBeforeSix { const ORDER: [u32; 9] = [1, 2, 3, 8, 4, 5, 6, 7, 9]; }
+    FiveBeforeSix { const ORDER: [u32; 8] = [1, 2, 3, 8, 4, 5, 6, 7]; }
 
     /// Coordinate 2048 refused.
     CoordinateLimit { fn coordinate_taken(coordinate: f32) -> bool { coordinate.abs() < 2048.0 } }
@@ -100,6 +100,14 @@ slips! {
         }
     }
 
+    /// Mirroring with no d - 1: the side itself as a place.
+    SideItself {
+        fn mirrored(t: i64, d: i64) -> i64 {
+            let r = t.rem_euclid(2 * d);
+            r.min(2 * d - r)
+        }
+    }
+
     /// Texel numbers cut towards zero.
     NumberTowardsZero { fn texel_number(coordinate: f32, side: f32) -> i64 { (coordinate * side) as i64 } }
 
@@ -121,8 +129,8 @@ slips! {
         fn footprint(x: f32, y: f32, z: f32, w: f32) -> f32 { (x * x + z * z).max(y * y + w * w) }
     }
 
-    /// A level that is not lowered to the top level.
-    LevelNotLowered { fn lowered(level: u32, _top: u32) -> u32 { level } }
+    /// A level lowered to one above the top level.
+    LevelAboveTop { fn lowered(level: u32, top: u32) -> u32 { level.min(top + 1) } }
 
     /// The half taken off before scaling.
     HalfBeforeScaling { fn bilinear_place(coordinate: f32, side: f32) -> f32 { (coordinate - 0.5 / side) * side } }

@@ -34,7 +34,7 @@ struct Corners {
 }
 
 /// The corners of one lane.
-fn corners<R: Rules>(lent: &Lent, level: &Level, wraps: &Wraps, face: u32, u: f32, v: f32) -> Answer<Corners> {
+fn corners<R: Rules>(level: &Level, wraps: &Wraps, face: u32, u: f32, v: f32) -> Corners {
     let (x, y) = (between::<R>(u, level.width), between::<R>(v, level.height));
     let numbers = [
         (x.first, y.first),
@@ -42,19 +42,17 @@ fn corners<R: Rules>(lent: &Lent, level: &Level, wraps: &Wraps, face: u32, u: f3
         (x.first, y.second),
         (x.second, y.second),
     ];
-    let mut texels = [[0.0; 4]; 4];
-    for (texel, (x, y)) in texels.iter_mut().zip(numbers) {
-        let (x, y) = wraps.place::<R>(x, y, level.width, level.height)?;
-        *texel = read::<R>(lent, level, face, x, y)?;
-    }
-    Ok(Corners {
-        texels,
+    Corners {
+        texels: numbers.map(|(x, y)| {
+            let (x, y) = wraps.place::<R>(x, y, level.width, level.height);
+            read::<R>(level, face, x, y)
+        }),
         fx: x.fraction,
         fy: y.fraction,
-    })
+    }
 }
 
-/// `sample_bilinear_rgb`: 1, 2, 3, 8 (a face), 4, 6, 5, 9.
+/// `sample_bilinear_rgb`: 1, 2, 3, 8 (a face), 4, 6, 5.
 pub fn sample_bilinear_rgb<R: Rules>(
     lent: &Lent,
     codes: [u32; 2],
@@ -74,16 +72,14 @@ pub fn sample_bilinear_rgb<R: Rules>(
         (6, m > top_level(lent.width, lent.height)),
         (5, bad_coordinates::<R>(u, v)),
     ])?;
-    let level = level::<R>(lent, m)?;
-    let mut lanes = [[0.0; 3]; 4];
-    for lane in 0..4 {
-        let c = corners::<R>(lent, &level, &wraps, faces[lane], u[lane], v[lane])?;
-        lanes[lane] = [0, 1, 2].map(|channel| R::blend_colour(c.texels.map(|p| p[channel]), c.fx, c.fy));
-    }
-    Ok(by_channel(lanes))
+    let level = level::<R>(lent, m);
+    Ok(by_channel(std::array::from_fn(|lane| {
+        let c = corners::<R>(&level, &wraps, faces[lane], u[lane], v[lane]);
+        [0, 1, 2].map(|channel| R::blend_colour(c.texels.map(|p| p[channel]), c.fx, c.fy))
+    })))
 }
 
-/// `sample_bilinear_alpha`: 1, 2, 3, 8 (a cubemap), 4, 6, 5, 9.
+/// `sample_bilinear_alpha`: 1, 2, 3, 8 (a cubemap), 4, 6, 5.
 pub fn sample_bilinear_alpha<R: Rules>(lent: &Lent, codes: [u32; 2], u: &Lanes, v: &Lanes, m: u32) -> Answer<Lanes> {
     let wraps = Wraps::of::<R>(codes);
     let [one, two, three] = of_chain::<R>(lent);
@@ -96,11 +92,9 @@ pub fn sample_bilinear_alpha<R: Rules>(lent: &Lent, codes: [u32; 2], u: &Lanes, 
         (6, m > top_level(lent.width, lent.height)),
         (5, bad_coordinates::<R>(u, v)),
     ])?;
-    let level = level::<R>(lent, m)?;
-    let mut lanes = [0.0; 4];
-    for lane in 0..4 {
-        let c = corners::<R>(lent, &level, &wraps, 0, u[lane], v[lane])?;
-        lanes[lane] = R::blend_alpha(c.texels.map(|p| p[3]), c.fx, c.fy);
-    }
-    Ok(lanes)
+    let level = level::<R>(lent, m);
+    Ok(std::array::from_fn(|lane| {
+        let c = corners::<R>(&level, &wraps, 0, u[lane], v[lane]);
+        R::blend_alpha(c.texels.map(|p| p[3]), c.fx, c.fy)
+    }))
 }

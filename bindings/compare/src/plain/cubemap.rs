@@ -8,16 +8,16 @@ use super::texel::{by_channel, level, read};
 use super::{Answer, Lanes, Lent, CUBEMAP};
 
 /// The colour of the nearest texel: round(u * (width - 1)) of the level read, a half to the even neighbour.
-fn nearest_colour<R: Rules>(lent: &Lent, direction: [f32; 3], m: u32) -> Answer<[f32; 3]> {
-    let level = level::<R>(lent, m)?;
+fn nearest_colour<R: Rules>(lent: &Lent, direction: [f32; 3], m: u32) -> [f32; 3] {
+    let level = level::<R>(lent, m);
     let on = on_face::<R>(direction);
     let x = R::nearest_place(on.u * (level.width - 1) as f32);
     let y = R::nearest_place(on.v * (level.height - 1) as f32);
-    let [r, g, b, _] = read::<R>(lent, &level, on.face, x as i64, y as i64)?;
-    Ok([r, g, b])
+    let [r, g, b, _] = read::<R>(&level, on.face, x as i64, y as i64);
+    [r, g, b]
 }
 
-/// `sample_cubemap_rgb`: 1, 2, 3, 8 (not a cubemap), 7, 9. Whole-number levels are lowered to the top level.
+/// `sample_cubemap_rgb`: 1, 2, 3, 8 (not a cubemap), 7. Whole-number levels are lowered to the top level.
 pub fn sample_cubemap_rgb<R: Rules>(
     lent: &Lent,
     x: &Lanes,
@@ -29,12 +29,10 @@ pub fn sample_cubemap_rgb<R: Rules>(
     let eight = (8, lent.kind != CUBEMAP);
     first::<R>(&[one, two, three, eight, (7, bad_directions::<R>(x, y, z))])?;
     let top = top_level(lent.width, lent.height);
-    let mut lanes = [[0.0; 3]; 4];
-    for lane in 0..4 {
+    Ok(by_channel(std::array::from_fn(|lane| {
         let m = R::lowered(levels[lane], top);
-        lanes[lane] = nearest_colour::<R>(lent, [x[lane], y[lane], z[lane]], m)?;
-    }
-    Ok(by_channel(lanes))
+        nearest_colour::<R>(lent, [x[lane], y[lane], z[lane]], m)
+    })))
 }
 
 /// Level held to 0..top, lower level l, upper min(l+1, top); the fraction t between them.
@@ -44,7 +42,7 @@ pub fn trilinear_levels(fractional: f32, top: u32) -> (u32, u32, f32) {
     (lower as u32, (lower as u32 + 1).min(top), held - lower)
 }
 
-/// `sample_cubemap_trilinear_rgb`: 1, 2, 3, 8 (not a cubemap), 7, 5, 9.
+/// `sample_cubemap_trilinear_rgb`: 1, 2, 3, 8 (not a cubemap), 7, 5.
 pub fn sample_cubemap_trilinear_rgb<R: Rules>(
     lent: &Lent,
     x: &Lanes,
@@ -62,15 +60,13 @@ pub fn sample_cubemap_trilinear_rgb<R: Rules>(
         (5, not_finite(levels)),
     ])?;
     let top = top_level(lent.width, lent.height);
-    let mut lanes = [[0.0; 3]; 4];
-    for lane in 0..4 {
+    Ok(by_channel(std::array::from_fn(|lane| {
         let direction = [x[lane], y[lane], z[lane]];
         let (lower, upper, t) = trilinear_levels(levels[lane], top);
-        let c0 = nearest_colour::<R>(lent, direction, lower)?;
-        let c1 = nearest_colour::<R>(lent, direction, upper)?;
-        lanes[lane] = [0, 1, 2].map(|channel| R::between_levels(c0[channel], c1[channel], t));
-    }
-    Ok(by_channel(lanes))
+        let c0 = nearest_colour::<R>(lent, direction, lower);
+        let c1 = nearest_colour::<R>(lent, direction, upper);
+        [0, 1, 2].map(|channel| R::between_levels(c0[channel], c1[channel], t))
+    })))
 }
 
 /// Whether u * (width - 1) or v * (height - 1) of an accepted direction at level m is an exact half.

@@ -7,7 +7,7 @@ use super::texel::{by_channel, level, read};
 use super::wrap::Wraps;
 use super::{Answer, Lanes, Lent, CUBEMAP};
 
-/// The four texels that the four lanes read, or the refusal: 1, 2, 3, 8 (a cubemap), 4, 5, 9.
+/// The four texels that the four lanes read, or the refusal: 1, 2, 3, 8 (a cubemap), 4, 5.
 fn sample4<R: Rules>(lent: &Lent, codes: [u32; 2], u: &Lanes, v: &Lanes, steps: &Lanes) -> Answer<[[f32; 4]; 4]> {
     let wraps = Wraps::of::<R>(codes);
     let [one, two, three] = of_chain::<R>(lent);
@@ -19,15 +19,13 @@ fn sample4<R: Rules>(lent: &Lent, codes: [u32; 2], u: &Lanes, v: &Lanes, steps: 
         (4, wraps.unknown()),
         (5, bad_coordinates::<R>(u, v) || not_finite(steps)),
     ])?;
-    let level = level::<R>(lent, level_of_steps::<R>(lent.width, lent.height, steps))?;
-    let mut texels = [[0.0; 4]; 4];
-    for lane in 0..4 {
+    let level = level::<R>(lent, level_of_steps::<R>(lent.width, lent.height, steps));
+    Ok(std::array::from_fn(|lane| {
         let x = R::texel_number(u[lane], level.width as f32);
         let y = R::texel_number(v[lane], level.height as f32);
-        let (x, y) = wraps.place::<R>(x, y, level.width, level.height)?;
-        texels[lane] = read::<R>(lent, &level, 0, x, y)?;
-    }
-    Ok(texels)
+        let (x, y) = wraps.place::<R>(x, y, level.width, level.height);
+        read::<R>(&level, 0, x, y)
+    }))
 }
 
 /// `sample4_rgb`: four reds, four greens, four blues.

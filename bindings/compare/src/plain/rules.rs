@@ -14,8 +14,8 @@ pub enum Axis {
 
 /// Document 01's small rules.
 pub trait Rules {
-    /// Order: 1, 2, 3, 8, 4, 6, 7, 5, 9.
-    const ORDER: [u32; 9] = [1, 2, 3, 8, 4, 6, 7, 5, 9];
+    /// Order: 1, 2, 3, 8, 4, 6, 7, 5 (T-03: 9 is retired).
+    const ORDER: [u32; 8] = [1, 2, 3, 8, 4, 6, 7, 5];
 
     /// Face places in faces (column, row), in layout order.
     const CROSS: [(u32, u32); 6] = [(2, 1), (0, 1), (1, 0), (1, 2), (1, 1), (3, 1)];

@@ -1,8 +1,8 @@
 //! One texel, and the place of one in its level.
 
 use super::rules::Rules;
-use super::sizes::{face_texels, level_start, top_level};
-use super::{Answer, Lent};
+use super::sizes::{level_start, level_texels};
+use super::Lent;
 
 /// A texel is a 32-bit number, red in the top byte, then green, blue, alpha: its four bytes.
 pub fn bytes(texel: u32) -> [u32; 4] {
@@ -21,34 +21,29 @@ pub fn channels<R: Rules>(texel: u32) -> [f32; 4] {
 
 /// One level of a lent chain, as a lookup reads it.
 #[derive(Clone, Copy)]
-pub struct Level {
-    pub start: usize,
+pub struct Level<'a> {
     pub width: u32,
     pub height: u32,
-    pub face: usize,
+    texels: &'a [u32],
 }
 
-/// Where level m of a lent chain stands. A level above the top one has no texels: 9.
-pub fn level<R: Rules>(lent: &Lent, m: u32) -> Answer<Level> {
-    if m > top_level(lent.width, lent.height) {
-        return Err(9);
-    }
-    Ok(Level {
-        start: level_start::<R>(lent.kind, lent.width, lent.height, m) as usize,
+/// Level m of a lent chain.
+pub fn level<'a, R: Rules>(lent: &Lent<'a>, m: u32) -> Level<'a> {
+    let start = level_start::<R>(lent.kind, lent.width, lent.height, m) as usize;
+    let length = level_texels::<R>(lent.kind, lent.width, lent.height, m) as usize;
+    Level {
         width: R::level_side(lent.width, m),
         height: R::level_side(lent.height, m),
-        face: face_texels::<R>(lent.width, lent.height, m) as usize,
-    })
+        texels: &lent.texels[start..start + length],
+    }
 }
 
-/// 9: a texel place outside its level, looked at before each read. Faces and rows follow each other.
-pub fn read<R: Rules>(lent: &Lent, level: &Level, face: u32, x: i64, y: i64) -> Answer<[f32; 4]> {
-    if x < 0 || y < 0 || x >= level.width as i64 || y >= level.height as i64 {
-        return Err(9);
-    }
-    let row = y as usize * level.width as usize;
-    let place = level.start + face as usize * level.face + row + x as usize;
-    Ok(channels::<R>(lent.texels[place]))
+/// The texel at a place of a face. Faces and rows follow each other; a place outside its level panics.
+pub fn read<R: Rules>(level: &Level, face: u32, x: i64, y: i64) -> [f32; 4] {
+    let (width, height) = (level.width as usize, level.height as usize);
+    let face = &level.texels[face as usize * width * height..][..width * height];
+    let row = &face[y as usize * width..][..width];
+    channels::<R>(row[x as usize])
 }
 
 /// Four lanes of one texel each as four reds, four greens, four blues.

@@ -52,10 +52,11 @@ impl Wraps {
     }
 
     /// The texel place of a pair of texel numbers; codes are looked at before.
-    pub fn place<R: Rules>(&self, x: i64, y: i64, width: u32, height: u32) -> Result<(i64, i64), u32> {
-        let (Some(s), Some(t)) = (self.s, self.t) else {
-            return Err(4);
-        };
-        Ok((wrapped::<R>(s, x, width), wrapped::<R>(t, y, height)))
+    pub fn place<R: Rules>(&self, x: i64, y: i64, width: u32, height: u32) -> (i64, i64) {
+        let known = |wrap: Option<Wrap>| wrap.expect("a known code");
+        (
+            wrapped::<R>(known(self.s), x, width),
+            wrapped::<R>(known(self.t), y, height),
+        )
     }
 }
