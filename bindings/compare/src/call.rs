@@ -134,6 +134,9 @@ impl<'a> Call<'a> {
     }
 }
 
+/// The numbers that a call can answer: 0, or a refusal. 9 is retired and never used again, 12 is the listing program's.
+pub const NUMBERS: [u32; 12] = [0, 1, 2, 3, 4, 5, 6, 7, 8, 10, 11, 14];
+
 /// What stands where nothing was written.
 pub const UNTOUCHED: u32 = 0xC5C5_5C5C;
 

@@ -1,10 +1,10 @@
 //! The comparison: each call is asked of the plain reading and of the others, and their outcomes are held against it.
 
-use crate::call::{ask, Call, Outcome, NAMES, UNTOUCHED};
+use crate::call::{ask, Call, Outcome, NAMES, NUMBERS, UNTOUCHED};
 use crate::left_out::left_out;
 use crate::plain::{level_texels, Document01};
 use crate::smaller::smaller;
-use crate::text::Shown;
+use crate::text::{answered, Shown};
 use crate::unit::Unit;
 
 /// Kinds 0 to 4, and one more for calls without a kind and for refused kinds.
@@ -90,7 +90,7 @@ impl Other {
 }
 
 /// Refusal numbers run to 14; 0 stands for an accepted call.
-pub const REFUSALS: usize = 15;
+const REFUSALS: usize = 15;
 
 /// The reading and those that are held against it.
 pub struct Comparison {
@@ -132,11 +132,7 @@ impl Comparison {
         if self.has_seen_all() {
             return;
         }
-        ask(&*self.reading, call, &mut self.expected);
-        assert!(
-            refuses_cleanly(call, &self.expected),
-            "the reading changed something: {call}"
-        );
+        ask_reading(&*self.reading, call, &mut self.expected);
         self.given[call.number()][self.expected.refusal as usize] += 1;
         let refused = self.expected.refusal != 0;
         for other in &mut self.others {
@@ -147,6 +143,17 @@ impl Comparison {
             }
         }
     }
+}
+
+/// Asks the reading one call. It stops the run where it answers what no call gives, or refuses and changes something.
+pub fn ask_reading(reading: &dyn Unit, call: &Call, outcome: &mut Outcome) {
+    ask(reading, call, outcome);
+    assert!(
+        NUMBERS.contains(&outcome.refusal),
+        "the reading {} here: {call}",
+        answered(outcome.refusal)
+    );
+    assert!(refuses_cleanly(call, outcome), "the reading changed something: {call}");
 }
 
 /// A refusal answers the number only and no lent buffer changes.

@@ -1,7 +1,7 @@
 //! The counts of a comparison as a table, and each difference's smallest case.
 
-use crate::call::NAMES;
-use crate::comparison::{Comparison, Other, Tally, KINDS, REFUSALS};
+use crate::call::{NAMES, NUMBERS};
+use crate::comparison::{Comparison, Other, Tally, KINDS};
 use std::fmt::Write;
 
 /// The names of the kinds by their codes, and of what has none.
@@ -15,12 +15,12 @@ pub fn report(comparison: &Comparison) -> String {
 
 /// How often the reading gave each refusal number.
 fn refusals_given(comparison: &Comparison) -> String {
-    let numbers: Vec<String> = (1..REFUSALS).map(|number| number.to_string()).collect();
+    let numbers: Vec<String> = NUMBERS[1..].iter().map(u32::to_string).collect();
     let mut text = "## What the reading answered\n\n".to_string();
     let _ = writeln!(text, "| call | accepted | {} |", numbers.join(" | "));
-    let _ = writeln!(text, "|---|{}", "--:|".repeat(REFUSALS));
+    let _ = writeln!(text, "|---|{}", "--:|".repeat(NUMBERS.len()));
     for (call, given) in comparison.given.iter().enumerate() {
-        let counts: Vec<String> = given.iter().map(u64::to_string).collect();
+        let counts = NUMBERS.map(|number| given[number as usize].to_string());
         let _ = writeln!(text, "| {} | {} |", NAMES[call], counts.join(" | "));
     }
     text

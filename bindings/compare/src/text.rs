@@ -1,6 +1,6 @@
 //! A call and a difference in words, so that a person can make the call again.
 
-use crate::call::{Call, Outcome, PANICKED};
+use crate::call::{Call, Outcome, NUMBERS, PANICKED};
 use crate::plain::{Lanes, Lent};
 use crate::unit::Directions;
 use std::fmt::{Display, Formatter, Result, Write};
@@ -180,7 +180,8 @@ pub fn first_difference(reading: &Outcome, other: &Outcome) -> String {
 pub fn answered(number: u32) -> String {
     match number {
         PANICKED => "panics".to_string(),
-        _ => format!("answers {number}"),
+        _ if NUMBERS.contains(&number) => format!("answers {number}"),
+        _ => format!("answers {number}, which no call gives,"),
     }
 }
 

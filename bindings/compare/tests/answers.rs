@@ -49,4 +49,7 @@ fn a_list_that_is_none_is_refused() {
     assert!(from_bytes(&bytes[..bytes.len() - 1]).is_err());
     assert!(from_bytes(&bytes[1..]).is_err());
     assert!(from_bytes(&[]).is_err());
+    let mut retired = sample(1);
+    retired[0][ANSWER] = 9;
+    assert!(from_bytes(&to_bytes(&retired)).is_err());
 }

@@ -3,11 +3,12 @@
 use super::generator::{bytes, texels};
 use super::record::{record, Record, ARGUMENTS};
 use super::{BEFORE, LONGEST};
-use crate::call::{ask, Call, Outcome};
+use crate::call::{Call, Outcome};
 use crate::cases::curve::Fourths;
 use crate::cases::refusals::OF_CALL;
 use crate::cases::spoil::{accepted, of_picture, taken_kind, Arguments, TARGET};
 use crate::cases::values::sides;
+use crate::comparison::ask_reading;
 use crate::plain::{chain_texels, Cut, Document01, NORMAL, SRGB};
 use crate::random::Random;
 use crate::reading::Reading;
@@ -45,7 +46,7 @@ impl List {
     /// Adds a call over buffers of a seed, with what the plain reading answers.
     fn add(&mut self, seed: u32, call: &Call) {
         let mut outcome = Outcome::new();
-        ask(&Reading::<Document01>::NEW, call, &mut outcome);
+        ask_reading(&Reading::<Document01>::NEW, call, &mut outcome);
         self.records.push(record(seed, call, &outcome));
     }
 

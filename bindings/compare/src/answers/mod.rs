@@ -6,6 +6,8 @@ mod generator;
 mod record;
 mod replay;
 
+use crate::call::NUMBERS;
+
 pub use cases::sample;
 pub use generator::{bytes, checksum, texels};
 pub use record::{Record, ANSWER, ARGUMENTS, WORDS};
@@ -45,8 +47,15 @@ pub fn from_bytes(bytes: &[u8]) -> Result<Vec<Record>, String> {
     if words.len() != length || bytes.len() != 4 * length {
         return Err(format!("{} bytes for a list of {} records", bytes.len(), words[2]));
     }
-    Ok(words[WORDS..]
+    let records: Vec<Record> = words[WORDS..]
         .chunks_exact(WORDS)
         .map(|record| record.try_into().unwrap())
-        .collect())
+        .collect();
+    match records.iter().position(|record| !NUMBERS.contains(&record[ANSWER])) {
+        Some(i) => Err(format!(
+            "record {i} answers {}, which no call gives",
+            records[i][ANSWER]
+        )),
+        None => Ok(records),
+    }
 }
