@@ -1,6 +1,6 @@
-//! What the lookups are timed on: a picture that a cache holds, coordinates around it, steps of several levels.
+//! What the lookups are timed on: two pictures, and arguments drawn for them.
 
-use crate::plain::{chain_texels, Document01, Lanes, Lent};
+use crate::plain::{chain_texels, Document01, Lanes, Lent, CUBEMAP, LINEAR};
 use crate::random::Random;
 use crate::unit::{Directions, Picture};
 
@@ -15,20 +15,64 @@ pub struct Arguments {
     pub fractions: Lanes,
 }
 
-/// So many arguments for pictures of a side that is a power of two.
-pub fn drawn(random: &mut Random, count: usize, side: u32) -> Vec<Arguments> {
-    let top = side.ilog2();
-    (0..count).map(|_| one(random, side, top)).collect()
+/// Two square pictures, and what the arguments are drawn from.
+pub struct Scene {
+    pub name: &'static str,
+    /// The side of the plain picture, and that of the cubemap.
+    pub sides: [u32; 2],
+    /// Different calls of each lookup.
+    pub calls: usize,
+    /// The ends between which u and v lie.
+    pub coordinates: [f64; 2],
+    /// A step is two to a power between these, in texels of the cubemap.
+    pub powers: [f64; 2],
+    /// The levels that are asked for, the highest last.
+    pub levels: &'static [u32],
+}
+
+/// Few calls, over and over, around pictures that a cache holds: texels and branches are warm.
+pub const WARM: Scene = Scene {
+    name: "Lookups, warm",
+    sides: [512, 256],
+    calls: 2048,
+    coordinates: [-2.0, 3.0],
+    powers: [-1.0, 4.0],
+    levels: &[0, 1, 2, 3, 4, 5, 6, 7, 8],
+};
+
+/// Many calls, each once a round, all over large pictures: texels come from the outer caches, and branches surprise.
+pub const RANDOM_PLACES: Scene = Scene {
+    name: "Lookups at random places, three in four at level 0",
+    sides: [1024, 512],
+    calls: 200_000,
+    coordinates: [-0.125, 1.125],
+    powers: [-3.0, 1.0],
+    levels: &[0, 0, 0, 1],
+};
+
+impl Scene {
+    /// The plain picture and the cubemap.
+    pub fn pictures(&self, random: &mut Random) -> [Chain; 2] {
+        let [plain, cube] = self.sides;
+        [Chain::drawn(random, LINEAR, plain), Chain::drawn(random, CUBEMAP, cube)]
+    }
+
+    /// The arguments of all calls.
+    pub fn arguments(&self, random: &mut Random) -> Vec<Arguments> {
+        (0..self.calls).map(|_| one(random, self)).collect()
+    }
 }
 
 /// The arguments of one call.
-fn one(random: &mut Random, side: u32, top: u32) -> Arguments {
+fn one(random: &mut Random, scene: &Scene) -> Arguments {
     // Four neighbouring pixels: coordinates close together, one set of steps.
-    let (u, v) = (random.real(-2.0, 3.0), random.real(-2.0, 3.0));
-    let step = random.real(-1.0, 4.0).exp2() / side as f64;
+    let between = |random: &mut Random, ends: [f64; 2]| random.real(ends[0], ends[1]);
+    let [u, v] = [scene.coordinates; 2].map(|ends| between(random, ends));
+    let step = between(random, scene.powers).exp2() / scene.sides[1] as f64;
     let near = |random: &mut Random, at: f64| std::array::from_fn(|_| (at + step * random.unit()) as f32);
     let d: [f64; 3] = std::array::from_fn(|_| random.real(-1.0, 1.0));
-    let level = random.below(top as u64 + 1) as u32;
+    let level = random.pick(scene.levels);
+    let highest = scene.levels[scene.levels.len() - 1];
     Arguments {
         u: near(random, u),
         v: near(random, v),
@@ -39,8 +83,8 @@ fn one(random: &mut Random, side: u32, top: u32) -> Arguments {
             y: near(random, d[1]),
             z: near(random, d[2]),
         },
-        levels: std::array::from_fn(|_| random.below(top as u64 + 1) as u32),
-        fractions: std::array::from_fn(|_| random.real(0.0, top as f64) as f32),
+        levels: std::array::from_fn(|_| random.pick(scene.levels)),
+        fractions: std::array::from_fn(|_| random.real(0.0, highest as f64) as f32),
     }
 }
 
@@ -53,7 +97,7 @@ pub struct Chain {
 
 impl Chain {
     /// A square one.
-    pub fn drawn(random: &mut Random, kind: u32, side: u32) -> Chain {
+    fn drawn(random: &mut Random, kind: u32, side: u32) -> Chain {
         let texels = chain_texels::<Document01>(kind, side, side);
         Chain {
             kind,

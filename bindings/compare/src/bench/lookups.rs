@@ -5,8 +5,13 @@ use super::{time, Row, Timed};
 use crate::unit::Unit;
 use std::hint::black_box;
 
-/// Every argument is used so many times in a round.
-const REPEATS: usize = 40;
+/// A round has at least so many calls: few arguments are used over and over, many of them once.
+const CALLS: usize = 81_920;
+
+/// How often every argument is used in a round.
+fn repeats(arguments: &[Arguments]) -> usize {
+    CALLS.div_ceil(arguments.len())
+}
 
 /// The rows of all lookups, over a plain picture and a cubemap.
 pub fn rows<'a>(unit: &'a dyn Unit, plain: &'a Chain, cube: &'a Chain, arguments: &'a [Arguments]) -> Vec<Row<'a>> {
@@ -28,7 +33,7 @@ pub fn rows<'a>(unit: &'a dyn Unit, plain: &'a Chain, cube: &'a Chain, arguments
     rows
 }
 
-/// A row of one call made with every argument, over and over.
+/// A row of one call made with every argument.
 fn row<'a>(
     name: &str,
     arguments: &'a [Arguments],
@@ -37,18 +42,18 @@ fn row<'a>(
 ) -> Row<'a> {
     Row {
         name: name.to_string(),
-        count: (arguments.len() * REPEATS) as u64,
+        count: (arguments.len() * repeats(arguments)) as u64,
         unit: Some(over_and_over(arguments, unit)),
         source,
         floor: None,
     }
 }
 
-/// Makes one call with every argument, over and over.
+/// Makes one call with every argument, over and over until a round is full.
 fn over_and_over<'a, T: 'a>(arguments: &'a [Arguments], call: impl Fn(&Arguments) -> T + 'a) -> Timed<'a> {
     Box::new(move || {
         time(|| {
-            for _ in 0..REPEATS {
+            for _ in 0..repeats(arguments) {
                 for a in arguments {
                     black_box(call(black_box(a)));
                 }

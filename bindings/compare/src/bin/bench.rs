@@ -1,6 +1,6 @@
 //! `bench [ROUNDS]`: unit and source side by side in one process, turn by turn, the best of several rounds, as ratios.
 
-use swathecold_compare::bench::arguments::{drawn, Chain};
+use swathecold_compare::bench::arguments::{Scene, RANDOM_PLACES, WARM};
 use swathecold_compare::bench::{chains, lookups, ranges, table, unit, Best, Row};
 use swathecold_compare::random::Random;
 use swathecold_compare::unit::Unit;
@@ -29,7 +29,9 @@ fn main() {
     let mut random = Random::of(1, "bench");
     println!("{}", of_chains(&unit, name, &mut random, rounds));
     println!("{}", of_growth(&unit, name, &mut random, rounds));
-    println!("{}", of_lookups(&unit, name, &mut random, rounds));
+    for scene in [WARM, RANDOM_PLACES] {
+        println!("{}", of_lookups(&unit, name, &mut random, rounds, &scene));
+    }
     println!("{}", of_ranges(&unit, name, &mut random, rounds));
 }
 
@@ -65,12 +67,17 @@ fn of_growth(unit: &dyn Unit, name: &str, random: &mut Random, rounds: usize) ->
 }
 
 /// Every lookup.
-fn of_lookups(unit: &dyn Unit, name: &str, random: &mut Random, rounds: usize) -> String {
-    let (plain, cube) = (Chain::drawn(random, 4, 512), Chain::drawn(random, 3, 256));
-    let arguments = drawn(random, 2048, 256);
+fn of_lookups(unit: &dyn Unit, name: &str, random: &mut Random, rounds: usize, scene: &Scene) -> String {
+    let [plain, cube] = scene.pictures(random);
+    let arguments = scene.arguments(random);
     let rows = lookups::rows(unit, &plain, &cube, &arguments);
     let best: Vec<Best> = rows.into_iter().map(|row: Row| row.best(rounds)).collect();
-    table("Lookups", "a call of four lanes", name, &best)
+    let [side, cube_side] = scene.sides;
+    let title = format!(
+        "{}: {} different calls, {side} square and {cube_side} square x 6",
+        scene.name, scene.calls
+    );
+    table(&title, "a call of four lanes", name, &best)
 }
 
 /// Building ranges, and a replacement in a picture that a cache holds and in one that none does.
