@@ -11,7 +11,8 @@
  * texel:   32 bits, red in the top byte, then green, blue, alpha
  * wrap:    10497 Repeat, 33071 ClampToEdge, 33648 MirroredRepeat, 0 not given: Repeat, glTF 2.0's default
  * refused: 1 kind, 2 side, 3 buffer too short, 4 wrap code, 5 coordinate, step or fractional level, 6 level, 7 direction,
- *          8 kind or face that the call does not take, 9 place outside its level, 10 cross, 11 cut, 14 place outside the picture
+ *          8 kind or face that the call does not take, 10 cross, 11 cut, 14 place outside the picture;
+ *          9 is retired: no call gives it, and the number is never used again
  */
 #ifndef SWATHECOLD_H
 #define SWATHECOLD_H

@@ -113,7 +113,7 @@ pub fn compute_mip_level(width: u32, height: u32, du_dv: Lanes) -> Result<u32, R
     Ok(level)
 }
 
-/// The nearest texel's colour in four lanes, at the level that the steps ask for. Refusals: 1, 2, 3, 8, 4, 5, 9.
+/// The nearest texel's colour in four lanes, at the level that the steps ask for. Refusals: 1, 2, 3, 8, 4, 5.
 #[allow(clippy::too_many_arguments)]
 pub fn sample4_rgb(
     kind: impl Into<u32>,
@@ -132,7 +132,7 @@ pub fn sample4_rgb(
     Ok(lanes_of(rgb))
 }
 
-/// The same for alpha. Refusals: 1, 2, 3, 8, 4, 5, 9.
+/// The same for alpha. Refusals: 1, 2, 3, 8, 4, 5.
 #[allow(clippy::too_many_arguments)]
 pub fn sample4_alpha(
     kind: impl Into<u32>,
@@ -153,7 +153,7 @@ pub fn sample4_alpha(
 
 /// Four colours, each blended from four texels of one level. `array_slice` is 0 in each lane but for a cubemap, whose faces are
 /// wrapped each by itself: a wrap that is not given repeats across the face's own edge, ClampToEdge holds it.
-/// Refusals: 1, 2, 3, 8, 4, 6, 5, 9.
+/// Refusals: 1, 2, 3, 8, 4, 6, 5.
 #[allow(clippy::too_many_arguments)]
 pub fn sample_bilinear_rgb(
     kind: impl Into<u32>,
@@ -175,7 +175,7 @@ pub fn sample_bilinear_rgb(
     Ok(lanes_of(rgb))
 }
 
-/// The same for alpha, which blends along x first and then along y; no cubemap. Refusals: 1, 2, 3, 8, 4, 6, 5, 9.
+/// The same for alpha, which blends along x first and then along y; no cubemap. Refusals: 1, 2, 3, 8, 4, 6, 5.
 #[allow(clippy::too_many_arguments)]
 pub fn sample_bilinear_alpha(
     kind: impl Into<u32>,
@@ -210,7 +210,7 @@ pub fn cubemap_uv_from_normal(n: Vec3x4) -> Result<CubemapUv, Refusal> {
     Ok(CubemapUv { u: [uv[0], uv[1], uv[2], uv[3]], v: [uv[4], uv[5], uv[6], uv[7]], faces })
 }
 
-/// The nearest texel of a cubemap in four directions; a level above the top is lowered to it. Refusals: 1, 2, 3, 8, 7, 9.
+/// The nearest texel of a cubemap in four directions; a level above the top is lowered to it. Refusals: 1, 2, 3, 8, 7.
 pub fn sample_cubemap_rgb(
     kind: impl Into<u32>,
     width: u32,
@@ -226,7 +226,7 @@ pub fn sample_cubemap_rgb(
     Ok(lanes_of(rgb))
 }
 
-/// The same between two levels; a fractional level outside 0 to the top is held to it. Refusals: 1, 2, 3, 8, 7, 5, 9.
+/// The same between two levels; a fractional level outside 0 to the top is held to it. Refusals: 1, 2, 3, 8, 7, 5.
 pub fn sample_cubemap_trilinear_rgb(
     kind: impl Into<u32>,
     width: u32,

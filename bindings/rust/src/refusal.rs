@@ -14,6 +14,8 @@ use std::fmt;
 ///     "refused 2: a side of the picture is 0 or above 4096; scale the picture to sides from 1 to 4096"
 /// );
 /// ```
+///
+/// 9 is retired: no call gives it, and the number is never used again.
 #[derive(Clone, Copy, Debug, PartialEq, Eq, Hash)]
 pub struct Refusal(u32);
 
@@ -54,7 +56,7 @@ impl Refusal {
                 "the call does not take this kind or this face",
                 "use a call that takes the kind, or a face that it has: 0 to 5 of a cubemap, else 0",
             ),
-            9 => ("a texel's place lies outside its level", "report this: no input is known to give it"),
+            9 => ("the number is retired, and no call gives it", "see that this version's library is linked, not an older one"),
             10 => ("the cross's faces have sides outside 1 to 4096", "lend a cross of 4 by 3 faces"),
             11 => (
                 "the cut is not aligned, is empty or is not inside",
@@ -74,3 +76,17 @@ impl fmt::Display for Refusal {
 }
 
 impl Error for Refusal {}
+
+#[cfg(test)]
+mod tests {
+    use super::Refusal;
+
+    #[test]
+    fn a_retired_number_says_so() {
+        let said = Refusal::of(9).unwrap_err().to_string();
+        assert_eq!(
+            said,
+            "refused 9: the number is retired, and no call gives it; see that this version's library is linked, not an older one"
+        );
+    }
+}
