@@ -1,5 +1,6 @@
-/* Links the archive by its header and calls every name in it: document 01's reference items, document 02's ranges, a refusal of each
- * call, and that a refusal writes nothing. Prints how many checks held; answers 1 at the first that does not. */
+/* Links the archive by its header and calls every name in it: document 01's reference items, the edges of levels, document 02's
+ * ranges, a refusal of each call, and that a refusal writes nothing. Prints how many checks held; answers 1 at the first that does
+ * not. */
 #include <math.h>
 #include <stdint.h>
 #include <stdio.h>
@@ -79,6 +80,54 @@ static void flat_lookups(void) {
     expect(swathecold_sample_bilinear_alpha(LINEAR, 4, 1, texels, 7, CLAMP, CLAMP, u, v, 0, alpha) == 0 && alpha[3] == 1.0f, "bilinear alpha at the last texel");
 }
 
+/* A level one texel wide or high, of so many texels: texel 0 is red, texel 1 green, the last one blue and opaque; one alone is red. */
+static void mark(uint32_t *level, size_t side) {
+    if (side > 1) level[1] = 0x00FF0000, level[side - 1] = 0x0000FFFF;
+    level[0] = 0xFF000000;
+}
+
+/* Whether lane i is half of the colour at[2 * i] and half of the colour at[2 * i + 1], of R, G and B. */
+static int halves(const float rgb[12], const char *at) {
+    for (int i = 0; i < 12; i++) {
+        const char *lane = at + i % 4 * 2, colour = "RGB"[i / 4];
+        if (rgb[i] != ((lane[0] == colour) + (lane[1] == colour)) / 2.0f) return 0;
+    }
+    return 1;
+}
+
+/* On and beside the edges of a level and at both ends of what is taken, along both axes at once; a chain as long as it must be stands
+ * between two canaries. */
+static void edges(void) {
+    const float ends[4] = {1, -0.0f, 2048, -2048}, beside[4] = {0x1.fffffep-1f, -0x1p-149f, -1, 2048 - 0x1p-13f};
+    const float still[4] = {0, 0, 0, 0}, far[4] = {1, 1, 1, 1};
+    const struct { uint32_t wrap; const char *ends, *beside, *blended; } modes[] = {
+        {REPEAT, "RRRRRRRR", "BBBBRRBB", "BRBRBRRR"}, {CLAMP, "BBRRBBRR", "BBRRRRBB", "BBRRBBRR"}, {MIRRORED, "BBRRRRRR", "BBGGBBGG", "BBGRGRRR"}};
+    const uint32_t sides[][2] = {{4096, 1}, {1, 4096}, {1, 1}}, faces[4] = {0, 0, 0, 0};
+    const char *one = "RRRRRRRR";
+    static uint32_t lent[1 + 8191 + 1];
+    float rgb[12], alpha[4];
+    char at[64];
+    for (size_t i = 0; i < LEN(sides); i++) {
+        uint32_t w = sides[i][0], h = sides[i][1], side = w * h, top = side > 1 ? 12 : 0, *texels = lent + 1;
+        size_t total = 2 * side - 1;
+        memset(lent, 0, sizeof lent);
+        lent[0] = texels[total] = CANARY;
+        mark(texels, side);
+        mark(texels + total - 1, 1);
+        for (size_t m = 0; m < LEN(modes); m++) {
+            uint32_t wrap = modes[m].wrap;
+            snprintf(at, sizeof at, "the edges of %u by %u, wrap code %u", w, h, wrap);
+            expect(swathecold_sample4_rgb(LINEAR, w, h, texels, total, wrap, wrap, ends, ends, still, rgb) == 0 && halves(rgb, top ? modes[m].ends : one), at);
+            expect(swathecold_sample4_alpha(LINEAR, w, h, texels, total, wrap, wrap, ends, ends, still, alpha) == 0 && !memcmp(alpha, rgb + 8, sizeof alpha), at);
+            expect(swathecold_sample4_rgb(LINEAR, w, h, texels, total, wrap, wrap, beside, beside, still, rgb) == 0 && halves(rgb, top ? modes[m].beside : one), at);
+            expect(swathecold_sample4_rgb(LINEAR, w, h, texels, total, wrap, wrap, ends, ends, far, rgb) == 0 && halves(rgb, one), at);
+            expect(swathecold_sample_bilinear_rgb(LINEAR, w, h, texels, total, wrap, wrap, ends, ends, 0, faces, rgb) == 0 && halves(rgb, top ? modes[m].blended : one), at);
+            expect(swathecold_sample_bilinear_alpha(LINEAR, w, h, texels, total, wrap, wrap, ends, ends, 0, alpha) == 0 && !memcmp(alpha, rgb + 8, sizeof alpha), at);
+            expect(swathecold_sample_bilinear_rgb(LINEAR, w, h, texels, total, wrap, wrap, ends, ends, top, faces, rgb) == 0 && halves(rgb, one), at);
+        }
+    }
+}
+
 static void cubemaps(void) {
     const float x[4] = {1, 0, -0.0f, 1}, y[4] = {1, 2, 0, 1}, z[4] = {1, 1, -1, 1}, none[4] = {1, 0, 0, 0};
     const uint32_t tops[4] = {0, 9, 0, 0};
@@ -95,6 +144,27 @@ static void cubemaps(void) {
     expect(swathecold_sample_cubemap_rgb(LINEAR, 2, 2, texels, 30, x, y, z, tops, rgb) == 8, "a picture that is no cubemap: refusal 8");
     expect(swathecold_sample_cubemap_trilinear_rgb(CUBEMAP, 2, 2, texels, 30, x, y, z, levels, rgb) == 0 && rgb[2] == 1.0f && rgb[1] == 0.4f, "between two levels of one colour");
     expect(swathecold_sample_cubemap_trilinear_rgb(CUBEMAP, 2, 2, texels, 30, x, y, z, endless, rgb) == 5, "an endless level: refusal 5");
+}
+
+/* Whether the lanes' reds are those of the given texels, where texel i has the red 8 * i. */
+static int reds(const float rgb[12], int a, int b, int c, int d) {
+    return rgb[0] == (float)(8 * a) / 255.0f && rgb[1] == (float)(8 * b) / 255.0f && rgb[2] == (float)(8 * c) / 255.0f && rgb[3] == (float)(8 * d) / 255.0f;
+}
+
+/* The corners of a cubemap's faces, the last texel of the last face among them, at level 0 and at the last. */
+static void corners(void) {
+    const float inside = 0x1.fffffep-1f, x[4] = {1, 1, -1, -inside}, y[4] = {1, -1, -1, -inside}, z[4] = {1, -1, 1, -1};
+    const uint32_t zeros[4] = {0, 0, 0, 0}, tops[4] = {1, 2, 9, UINT32_MAX}, faces[4] = {0, 1, 4, 5};
+    const float first[4] = {0, -0.0f, -1, -9}, last[4] = {1, 2, 9, 0x1p127f}, u[4] = {0.75f, 0.75f, 0.75f, 0.75f};
+    uint32_t lent[1 + 30 + 1], *texels = lent + 1;
+    float rgb[12];
+    for (uint32_t i = 0; i < 30; i++) texels[i] = (8 * i) << 24;
+    lent[0] = texels[30] = CANARY;
+    expect(swathecold_sample_cubemap_rgb(CUBEMAP, 2, 2, texels, 30, x, y, z, zeros, rgb) == 0 && reds(rgb, 0, 3, 7, 23), "corners of faces 0, 0, 1, 5");
+    expect(swathecold_sample_cubemap_rgb(CUBEMAP, 2, 2, texels, 30, x, y, z, tops, rgb) == 0 && reds(rgb, 24, 24, 25, 29), "the same faces at the last level");
+    expect(swathecold_sample_cubemap_trilinear_rgb(CUBEMAP, 2, 2, texels, 30, x, y, z, first, rgb) == 0 && reds(rgb, 0, 3, 7, 23), "trilinear: corners at level 0");
+    expect(swathecold_sample_cubemap_trilinear_rgb(CUBEMAP, 2, 2, texels, 30, x, y, z, last, rgb) == 0 && reds(rgb, 24, 24, 25, 29), "trilinear: corners at the last level");
+    expect(swathecold_sample_bilinear_rgb(CUBEMAP, 2, 2, texels, 30, REPEAT, MIRRORED, u, u, 0, faces, rgb) == 0 && reds(rgb, 3, 7, 19, 23), "bilinear: each face's last texel, and nothing of those past it");
 }
 
 /* 17 by 18: tiles one wide at the right, two high below. One entry more is a canary in each buffer. */
@@ -160,7 +230,9 @@ int main(void) {
     sizes_and_chain();
     parts();
     flat_lookups();
+    edges();
     cubemaps();
+    corners();
     ranges_refused();
     ranges_built();
     texels_replaced();
