@@ -1,5 +1,5 @@
 # make demo, make test: all the set-up that is needed, nothing else. The rest is for whoever works on the unit.
-.PHONY: demo test archive samples sheet sheets differential real-time bench answers proof-times
+.PHONY: demo test archive samples sheet sheets differential real-time bench instructions answers proof-times
 
 CC ?= cc
 CFLAGS = -std=c11 -O2 -Wall -Wextra -Werror -Iinclude
@@ -53,6 +53,10 @@ bench: real-time archive
 
 real-time:
 	@$(MACHINE) && can bench "$${runner:+a time taken in an emulator says nothing}"
+
+# Instructions a call of each lookup: counted, so the same on every run.
+instructions: archive
+	@tools/instructions
 
 # Makes the stored answers again that crates/replay runs, from document 01 read plainly: no unit is asked.
 answers:
