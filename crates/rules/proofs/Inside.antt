@@ -3,7 +3,7 @@
 -- bound; and a level ends inside the chain. Assumes nothing.
 use mathlib.Core.Path.{_≡_}
 use mathlib.Core.Bool.{Bool, true, false, cond}
-use Prim.Native.Nat.{ℕ, zero, suc, _+_, _*_, _%_, _^_, _≤_, _<_}
+use Prim.Native.Nat.{ℕ, zero, suc, _+_, _*_, _^_, _≤_, _<_}
 use native.Mathlib.Nat.{mod-lt}
 use native.Mathlib.Omega.{arith}
 use lib.Arith.{digits-lt}
@@ -15,14 +15,13 @@ use Rattle.rules.specs.declared.Sampler.{Sampler}
 use Rattle.rules.specs.declared.Mode.{Mode}
 use Rattle.rules.specs.declared.Mode.the-variants.{Repeat, Clamp, Mirror}
 use Rattle.rules.specs.declared.Plane.{Plane}
-use Rattle.rules.specs.declared.Corners.{Corners}
 use Rattle.rules.specs.Kinds.{facesOf}
 use Rattle.rules.specs.Sizes.{top, sizeAt}
 use Rattle.rules.specs.Floats.{float}
 use Rattle.rules.specs.Wrapping.{remainderOf, heldOf, mirroredOf, wrapOf, modeOf}
 use Rattle.rules.specs.Footprint.{footprintOf, fourOf, mipLevelOf}
-use Rattle.rules.specs.Places.{planeOf, placeOf, InLevel, nearestPlace}
-use Rattle.rules.specs.Bilinear.{axisOf, cornersOf, cornersAt}
+use Rattle.rules.specs.Places.{planeOf, placeOf, InLevel, nearestOf}
+use Rattle.rules.specs.Bilinear.{spanOf, axisOf}
 use Rattle.rules.specs.Refusals.{faceTaken, sample4Refusal, bilinearRgbRefusal, bilinearAlphaRefusal}
 use Rattle.rules.proofs.Sides.{side-pos}
 use Rattle.rules.proofs.Bounds.{faces-some, level-end}
@@ -51,30 +50,40 @@ pub place-lt : {p : Plane} (f x y : ℕ) → InLevel p f x y → placeOf p f x y
 unfolding placeOf
 place-lt f x y i = omega (arith, digits-lt (digits-lt (i .face) (i .down)) (i .across))
 
--- the four places of a bilinear lookup are among n texels
-abbrev pub Lent : ℕ → Corners → Type 0
-Lent n q = (q .p00 < n) × (q .p10 < n) × (q .p01 < n) × (q .p11 < n)
+-- texel (x, y) of face f may be read: it lies inside its level, and its place inside the n texels that are lent
+pub record Reads (p : Plane) (n f x y : ℕ) : Type 0 where
+  pub inside : InLevel p f x y
+  pub lent : placeOf p f x y < n
+
+-- the texel of a nearest lookup, and the four of a bilinear one
+abbrev pub NearestReads : Plane → ℕ → Mode → Mode → Float → Float → Type 0
+NearestReads p n s t u v = Reads p n 0 (wrapOf s (nearestOf u (p .width)) (p .width)) (wrapOf t (nearestOf v (p .height)) (p .height))
+
+abbrev pub CornersRead : Plane → ℕ → Mode → Mode → ℕ → Float → Float → Type 0
+CornersRead p n s t f u v =
+    let x = axisOf s (spanOf u (p .width)) (p .width) in
+    let y = axisOf t (spanOf v (p .height)) (p .height) in
+    Reads p n f (x .first) (y .first) × Reads p n f (x .second) (y .first) × Reads p n f (x .first) (y .second) × Reads p n f (x .second) (y .second)
 
 module _ {kind w h n : ℕ} (m : ℕ) (c : Chained kind w h n) (below : m ≤ top w h) where
   level-lt : {k : ℕ} → let p = planeOf kind w h m in k < p .start + p .faces * p .height * p .width → k < n
   unfolding planeOf sizeAt
   level-lt l = omega (arith, level-end (facesOf kind) w h m below, c .room)
 
-  pub place-lent : (f x y : ℕ) → InLevel (planeOf kind w h m) f x y → placeOf (planeOf kind w h m) f x y < n
-  place-lent f x y i = level-lt (place-lt f x y i)
+  pub reads : (f x y : ℕ) → InLevel (planeOf kind w h m) f x y → Reads (planeOf kind w h m) n f x y
+  reads f x y i = record { inside = i; lent = level-lt (place-lt f x y i) }
 
   -- by coordinates: on every face that is taken, by every mode, whatever the texel numbers
-  pub wrapped-lent : (f : ℕ) → f < facesOf kind → (s t : Mode) (i j : ℤ) → let p = planeOf kind w h m in placeOf p f (wrapOf s i (p .width)) (wrapOf t j (p .height)) < n
+  wrapped-reads : (f : ℕ) → f < facesOf kind → (s t : Mode) (i j : ℤ) → let p = planeOf kind w h m in Reads p n f (wrapOf s i (p .width)) (wrapOf t j (p .height))
   unfolding planeOf
-  wrapped-lent f face s t i j = place-lent f _ _ (wrapped-in (planeOf kind w h m) f s t i j face (side-pos m w) (side-pos m h))
+  wrapped-reads f face s t i j = reads f _ _ (wrapped-in (planeOf kind w h m) f s t i j face (side-pos m w) (side-pos m h))
 
-  pub nearest-lent : (s t : Mode) (u v : Float) → nearestPlace (planeOf kind w h m) s t u v < n
-  unfolding nearestPlace
-  nearest-lent s t u v = wrapped-lent 0 (faces-some kind) s t _ _
+  pub nearest-reads : (s t : Mode) (u v : Float) → NearestReads (planeOf kind w h m) n s t u v
+  nearest-reads s t u v = wrapped-reads 0 (faces-some kind) s t _ _
 
-  pub corners-lent : (f : ℕ) → f < facesOf kind → (s t : Mode) (u v : Float) → Lent n (cornersAt (planeOf kind w h m) f s t u v)
-  unfolding cornersAt cornersOf axisOf
-  corners-lent f face s t u v = (wrapped-lent f face s t _ _, wrapped-lent f face s t _ _, wrapped-lent f face s t _ _, wrapped-lent f face s t _ _)
+  pub corners-read : (s t : Mode) (f : ℕ) → f < facesOf kind → (u v : Float) → CornersRead (planeOf kind w h m) n s t f u v
+  unfolding axisOf
+  corners-read s t f face u v = (wrapped-reads f face s t _ _, wrapped-reads f face s t _ _, wrapped-reads f face s t _ _, wrapped-reads f face s t _ _)
 
 -- ---- the level that steps ask for is one of the picture's
 four-most : (n : ℕ) (f : Float) → fourOf n f ≤ n
@@ -90,30 +99,30 @@ pub mip-below : (w h : ℕ) (steps : Lanes) → mipLevelOf w h steps ≤ top w h
 unfolding mipLevelOf
 mip-below w h steps = four-most (top w h) (footprintOf w h steps)
 
--- ---- the calls: where nothing is refused, every place that a lane reads is one of the n texels that are lent
+-- ---- the calls: where nothing is refused, every texel that a lane reads lies inside its level and inside the n texels that are lent
 module _ (kind w h n : ℕ) (sampler : Sampler) (u v : Lanes) where
-  abbrev nearest : ℕ → Float → Float → ℕ
-  nearest m a b = nearestPlace (planeOf kind w h m) (modeOf (sampler .«wrap_s»)) (modeOf (sampler .«wrap_t»)) a b
+  abbrev nearest : ℕ → Float → Float → Type 0
+  nearest m = NearestReads (planeOf kind w h m) n (modeOf (sampler .«wrap_s»)) (modeOf (sampler .«wrap_t»))
 
-  abbrev corners : ℕ → ℕ → Float → Float → Corners
-  corners m f a b = cornersAt (planeOf kind w h m) f (modeOf (sampler .«wrap_s»)) (modeOf (sampler .«wrap_t»)) a b
+  abbrev corners : ℕ → ℕ → Float → Float → Type 0
+  corners m = CornersRead (planeOf kind w h m) n (modeOf (sampler .«wrap_s»)) (modeOf (sampler .«wrap_t»))
 
-  pub sample4-lent : (steps : Lanes) → sample4Refusal kind w h n sampler u v steps ≡ 0
-      → let at = nearest (mipLevelOf w h steps) in (at (u .a) (v .a) < n) × (at (u .b) (v .b) < n) × (at (u .c) (v .c) < n) × (at (u .d) (v .d) < n)
-  sample4-lent steps e =
-      let at = nearest-lent (mipLevelOf w h steps) (sample4-facts kind w h n sampler u v steps e .chained) (mip-below w h steps) _ _ in
+  pub sample4-reads : (steps : Lanes) → sample4Refusal kind w h n sampler u v steps ≡ 0
+      → let at = nearest (mipLevelOf w h steps) in at (u .a) (v .a) × at (u .b) (v .b) × at (u .c) (v .c) × at (u .d) (v .d)
+  sample4-reads steps e =
+      let at = nearest-reads (mipLevelOf w h steps) (sample4-facts kind w h n sampler u v steps e .chained) (mip-below w h steps) _ _ in
       (at (u .a) (v .a), at (u .b) (v .b), at (u .c) (v .c), at (u .d) (v .d))
 
-  pub bilinear-rgb-lent : (m : ℕ) (f : Wholes) → bilinearRgbRefusal kind w h n sampler u v m f ≡ 0
-      → let at = corners m in Lent n (at (f .a) (u .a) (v .a)) × Lent n (at (f .b) (u .b) (v .b)) × Lent n (at (f .c) (u .c) (v .c)) × Lent n (at (f .d) (u .d) (v .d))
-  bilinear-rgb-lent m f e =
+  pub bilinear-rgb-reads : (m : ℕ) (f : Wholes) → bilinearRgbRefusal kind w h n sampler u v m f ≡ 0
+      → let at = corners m in at (f .a) (u .a) (v .a) × at (f .b) (u .b) (v .b) × at (f .c) (u .c) (v .c) × at (f .d) (u .d) (v .d)
+  bilinear-rgb-reads m f e =
       let k = bilinear-rgb-facts kind w h n sampler u v m f e in
-      let at : (i : ℕ) → faceTaken kind i ≡ true → (a b : Float) → Lent n (corners m i a b) = λ i h. corners-lent m (k .chained) (k .blended .below) i (face-below kind i h) _ _ in
+      let at : (i : ℕ) → faceTaken kind i ≡ true → (a b : Float) → corners m i a b = λ i h. corners-read m (k .chained) (k .blended .below) _ _ i (face-below kind i h) in
       (at (f .a) (k .faces .a) (u .a) (v .a), at (f .b) (k .faces .b) (u .b) (v .b), at (f .c) (k .faces .c) (u .c) (v .c), at (f .d) (k .faces .d) (u .d) (v .d))
 
-  pub bilinear-alpha-lent : (m : ℕ) → bilinearAlphaRefusal kind w h n sampler u v m ≡ 0
-      → let at = corners m 0 in Lent n (at (u .a) (v .a)) × Lent n (at (u .b) (v .b)) × Lent n (at (u .c) (v .c)) × Lent n (at (u .d) (v .d))
-  bilinear-alpha-lent m e =
+  pub bilinear-alpha-reads : (m : ℕ) → bilinearAlphaRefusal kind w h n sampler u v m ≡ 0
+      → let at = corners m 0 in at (u .a) (v .a) × at (u .b) (v .b) × at (u .c) (v .c) × at (u .d) (v .d)
+  bilinear-alpha-reads m e =
       let k = bilinear-alpha-facts kind w h n sampler u v m e in
-      let at : (a b : Float) → Lent n (corners m 0 a b) = corners-lent m (k .chained) (k .blended .below) 0 (faces-some kind) _ _ in
+      let at : (a b : Float) → corners m 0 a b = corners-read m (k .chained) (k .blended .below) _ _ 0 (faces-some kind) in
       (at (u .a) (v .a), at (u .b) (v .b), at (u .c) (v .c), at (u .d) (v .d))

@@ -1,7 +1,6 @@
 -- `lane::bilinear::squares` meets its contract: a wrapped number lies in its side, so each of the sixteen places lies inside the level.
 -- Assumes nothing.
 use Rattle.places.specs.Sized.{Below}
-use Rattle.places.specs.Stands.{axesOf}
 use Rattle.places.proofs.Wraps.{axes-below}
 use Rattle.lane.specs.Reading.{squaresAt}
 use borrow.Author.Needs.{needs}

@@ -1,5 +1,5 @@
 -- `lookups::bilinear::bilinear_alpha_lookup` meets its contract. Assumes nothing.
-use mathlib.Core.Path.{_≡_, sym, ap, _∙_}
+use mathlib.Core.Path.{sym, ap, _∙_}
 use native.Mathlib.Omega.{arith}
 use Rattle.rules.proofs.Bounds.{taken-top}
 use Rattle.rules.proofs.RefusingLookups.{BilinearAlpha, bilinear-alpha-facts}

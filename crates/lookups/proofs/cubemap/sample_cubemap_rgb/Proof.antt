@@ -1,7 +1,6 @@
 -- `lookups::cubemap::sample_cubemap_rgb` meets its contract: past the refusals the answer comes from the places that it reads. Assumes nothing.
 use mathlib.Core.Path.{_≡_, sym, ap, _∙_, subst}
 use lib.ListN.{length}
-use Rattle.rules.specs.declared.Spots.{Spots}
 use Rattle.rules.specs.declared.Colour.the-variants.{Rgb}
 use Rattle.rules.specs.Refusals.{cubemapRefusal}
 use Rattle.rules.specs.Answers.{spotsAt, cubemapAnswer}

@@ -1,12 +1,10 @@
 -- `lookups::nearest::sample4_lookup` meets its contract. Assumes nothing.
-use mathlib.Core.Path.{_≡_, sym, ap, _∙_}
+use mathlib.Core.Path.{sym, ap, _∙_}
 use native.Mathlib.Omega.{arith}
 use Rattle.rules.proofs.Bounds.{taken-top}
 use Rattle.rules.proofs.RefusingLookups.{Sampled, sample4-facts}
 use Rattle.rules.proofs.Inside.{mip-below}
 use Rattle.lookups.specs.declared.lookup.Lookup.the-variants.{In, Refused}
-use Rattle.lookups.specs.declared.lookup.Wrapped.{Wrapped}
-use Rattle.lookups.specs.Reads.{wrappedOf}
 use Rattle.lookups.proofs.Passing.{refuses, gives}
 use borrow.Author.Needs.{needs}
 use Rattle.lookups.proofs.nearest.sample4_lookup.Statement.{statement}

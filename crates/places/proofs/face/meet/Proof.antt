@@ -1,6 +1,6 @@
 -- `places::face::meet` meets its contract: the magnitudes' comparisons say the same as the paper's words, and a direction that is taken meets
 -- the cube. Assumes nothing.
-use mathlib.Core.Path.{sym, _∙_, subst}
+use mathlib.Core.Path.{sym, subst}
 use lib.Dec.{T}
 use Rattle.places.proofs.Taken.{direction-words}
 use Rattle.places.proofs.Spots.{on-cube}
