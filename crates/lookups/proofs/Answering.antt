@@ -13,21 +13,22 @@ use Rattle.rules.specs.declared.Colour.the-variants.{Rgb}
 use Rattle.rules.specs.declared.Alpha.the-variants.{Of}
 use Rattle.rules.specs.Kinds.{cubemap, facesOf}
 use Rattle.rules.specs.Sizes.{top}
-use Rattle.rules.specs.Footprint.{mipLevelOf}
 use Rattle.rules.specs.Places.{planeOf}
 use Rattle.rules.specs.Refusals.{faceTaken, sample4Refusal, bilinearRgbRefusal, bilinearAlphaRefusal, cubemapRefusal, trilinearRefusal}
 use Rattle.rules.specs.Answers.{spotsAt, sample4RgbAnswer, sample4AlphaAnswer, bilinearRgbAnswer, bilinearAlphaAnswer, cubemapAnswer, trilinearAnswer}
 use Rattle.rules.proofs.Refusing.{Taken, Chained, answer-given}
-use Rattle.rules.proofs.RefusingLookups.{EachWhole, Cubed, face-below}
+use Rattle.rules.proofs.RefusingLookups.{EachWhole, Cubed, face-below, sample4-facts}
+use Rattle.rules.proofs.Inside.{mip-below}
 use Rattle.places.specs.Sized.{Sized, Below}
+use Rattle.lane.specs.declared.reading.Four.{Four}
 use Rattle.lane.specs.declared.trilinear.TwoLevels.{TwoLevels}
 use Rattle.lane.specs.declared.trilinear.Eight.{Eight}
 use Rattle.lane.specs.Cubes.{cubeFour, twoLevels, lerpColours}
-use Rattle.lane.specs.Reading.{Inside, AllWithin, nearestFour, squaresAt, readRgb, readAlpha, blendedRgb, blendedAlpha}
+use Rattle.lane.specs.Reading.{Inside, AllWithin, squaresAt, readRgb, readAlpha, blendedRgb, blendedAlpha}
 use Rattle.lane.proofs.Holding.{plane-sized, nearest-inside, squares-within}
 use Rattle.lane.proofs.Together.{nearest-colours, nearest-alphas, bilinear-colours, bilinear-alphas, cubemap-colours, trilinear-colours}
 use Rattle.lookups.specs.declared.lookup.Wrapped.{Wrapped}
-use Rattle.lookups.specs.Reads.{wrappedOf}
+use Rattle.lookups.specs.Reads.{wrappedOf, sample4Four}
 
 -- ---- by coordinates: q is level m of the picture, with its modes
 pub faces-below : (kind : ℕ) (f : Wholes) → EachWhole (faceTaken kind) f → Below (facesOf kind) f
@@ -43,23 +44,24 @@ module _ (kind w h m : ℕ) (sampler : Sampler) {q : Wrapped} (e : q ≡ wrapped
   unfolding wrappedOf planeOf
   wrapped-faces f b = rw e b
 
-  pub wrapped-nearest : (l : List ℕ) (u v : Lanes) → Chained kind w h (length l) → m ≤ top w h → Inside l (nearestFour (q .plane) (q .s) (q .t) u v)
-  unfolding wrappedOf
-  wrapped-nearest l u v c below = rw e (nearest-inside l m c below _ _ u v)
-
   pub wrapped-squares : (l : List ℕ) (f : Wholes) (u v : Lanes) → Below (facesOf kind) f → Chained kind w h (length l) → m ≤ top w h → AllWithin l (squaresAt (q .plane) f (q .s) (q .t) u v)
   unfolding wrappedOf
   wrapped-squares l f u v b c below = rw e (squares-within l m c below _ _ u v f b)
 
-module _ (kind w h : ℕ) (l : List ℕ) (sampler : Sampler) (u v : Lanes) {q : Wrapped} where
-  pub sample4-rgb-read : (steps : Lanes) → sample4Refusal kind w h (length l) sampler u v steps ≡ 0 → q ≡ wrappedOf kind w h (mipLevelOf w h steps) sampler → sample4RgbAnswer kind w h l sampler u v steps ≡ Rgb (readRgb l (nearestFour (q .plane) (q .s) (q .t) u v))
-  unfolding sample4RgbAnswer wrappedOf
+module _ (kind w h : ℕ) (l : List ℕ) (sampler : Sampler) (u v : Lanes) where
+  pub sample4-rgb-read : (steps : Lanes) {f : Four} → sample4Refusal kind w h (length l) sampler u v steps ≡ 0 → f ≡ sample4Four kind w h sampler u v steps → sample4RgbAnswer kind w h l sampler u v steps ≡ Rgb (readRgb l f)
+  unfolding sample4RgbAnswer sample4Four wrappedOf
   sample4-rgb-read steps z e = rw e (answer-given _ _ _ z ∙ ap Rgb (nearest-colours l _ _ _ u v))
 
-  pub sample4-alpha-read : (steps : Lanes) → sample4Refusal kind w h (length l) sampler u v steps ≡ 0 → q ≡ wrappedOf kind w h (mipLevelOf w h steps) sampler → sample4AlphaAnswer kind w h l sampler u v steps ≡ Of (readAlpha l (nearestFour (q .plane) (q .s) (q .t) u v))
-  unfolding sample4AlphaAnswer wrappedOf
+  pub sample4-alpha-read : (steps : Lanes) {f : Four} → sample4Refusal kind w h (length l) sampler u v steps ≡ 0 → f ≡ sample4Four kind w h sampler u v steps → sample4AlphaAnswer kind w h l sampler u v steps ≡ Of (readAlpha l f)
+  unfolding sample4AlphaAnswer sample4Four wrappedOf
   sample4-alpha-read steps z e = rw e (answer-given _ _ _ z ∙ ap Of (nearest-alphas l _ _ _ u v))
 
+  pub sample4-inside : (steps : Lanes) {f : Four} → sample4Refusal kind w h (length l) sampler u v steps ≡ 0 → f ≡ sample4Four kind w h sampler u v steps → Inside l f
+  unfolding sample4Four wrappedOf
+  sample4-inside steps z e = rw e (nearest-inside l _ (sample4-facts kind w h (length l) sampler u v steps z .chained) (mip-below w h steps) _ _ u v)
+
+module _ (kind w h : ℕ) (l : List ℕ) (sampler : Sampler) (u v : Lanes) {q : Wrapped} where
   pub bilinear-rgb-read : (m : ℕ) (f : Wholes) → bilinearRgbRefusal kind w h (length l) sampler u v m f ≡ 0 → q ≡ wrappedOf kind w h m sampler → bilinearRgbAnswer kind w h l sampler u v m f ≡ Rgb (blendedRgb l (squaresAt (q .plane) f (q .s) (q .t) u v))
   unfolding bilinearRgbAnswer wrappedOf
   bilinear-rgb-read m f z e = rw e (answer-given _ _ _ z ∙ ap Rgb (bilinear-colours l _ _ _ u v f))

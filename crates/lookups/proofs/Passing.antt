@@ -13,10 +13,13 @@ use Rattle.rules.specs.Lanes.{inWholes}
 use Rattle.rules.specs.Refusals.{_orElse_, unless, faceTaken, faceRefusal, facesRefusal}
 use Rattle.rules.specs.Answers.{answer}
 use Rattle.rules.proofs.Refusing.{none-or-some, answer-given, answer-refused}
+use Rattle.lane.specs.declared.reading.Four.{Four}
 use Rattle.lookups.specs.declared.lookup.Wrapped.{Wrapped}
 use Rattle.lookups.specs.declared.lookup.Lookup.{Lookup}
 use Rattle.lookups.specs.declared.lookup.Lookup.the-variants.{In, Refused}
-use Rattle.lookups.specs.Reads.{lookupNumber, facingNumber}
+use Rattle.lookups.specs.declared.nearest.Places.{Places}
+use Rattle.lookups.specs.declared.nearest.Places.the-variants.{At, Refused as NoPlaces}
+use Rattle.lookups.specs.Reads.{lookupNumber, placesNumber, facingNumber}
 
 -- a call that refuses by the number k that it was given, and one that was given none
 pub refuses : {A : Type 0} (refused : ℕ → A) (given : A) {n k : ℕ} → k ≡ n → (k ≡ 0 → ⊥) → refused k ≡ answer n refused given
@@ -42,7 +45,7 @@ module _ {A : Type 0} (refused : ℕ → A) (number : A → ℕ) (own : (n : ℕ
         | inr some ↦ let q : k ≡ n = h ∙ ap number (e ∙ answer-refused n refused given some) ∙ own n in (q, λ z. some (sym q ∙ z))
       ]
 
--- of a lookup by coordinates
+-- of a bilinear lookup
 no-lookup : (p : Wrapped) (n : ℕ) → Refused n ≡ In p → ⊥
 no-lookup p n e = let z : _≡_ {A = ℕ} 0 1 = cc in omega arith
 
@@ -54,6 +57,19 @@ lookup-given p {n} {q} e g =
 
 pub lookup-refused : (p : Wrapped) {n m k : ℕ} {found : Lookup} → found ≡ answer n Refused (In p) → found ≡ Refused m → k ≡ lookupNumber found → (k ≡ n) × (k ≡ 0 → ⊥)
 lookup-refused p e g h = found-refused Refused lookupNumber (λ n. refl) (no-lookup p) e g h
+
+-- of the places of a nearest lookup
+no-places : (f : Four) (n : ℕ) → NoPlaces n ≡ At f → ⊥
+no-places f n e = let z : _≡_ {A = ℕ} 0 1 = cc in omega arith
+
+pub places-given : (f : Four) {n : ℕ} {g : Four} {found : Places} → found ≡ answer n NoPlaces (At f) → found ≡ At g → (n ≡ 0) × (g ≡ f)
+places-given f {n} {g} e i =
+    let k = found-given NoPlaces placesNumber (λ n. refl) (no-places g) e i in
+    let h = k .1 in
+    (k .0, let same : g ≡ f = cc in same)
+
+pub places-refused : (f : Four) {n m k : ℕ} {found : Places} → found ≡ answer n NoPlaces (At f) → found ≡ NoPlaces m → k ≡ placesNumber found → (k ≡ n) × (k ≡ 0 → ⊥)
+places-refused f e g h = found-refused NoPlaces placesNumber (λ n. refl) (no-places f) e g h
 
 -- of a lookup by directions
 no-facing : (s : Spots) (n : ℕ) → NoFacing n ≡ On s → ⊥
