@@ -1,4 +1,5 @@
 -- The places of four lanes are among the texels of a chain that they hold. Assumes nothing.
+use mathlib.Core.Path.{_≡_, refl}
 use mathlib.Core.List.{List}
 use Prim.Native.Nat.{ℕ, _≤_}
 use native.Mathlib.Omega.{arith}
@@ -34,6 +35,11 @@ plane-sized {kind} {w} {h} {m} t le =
       some-h = side-pos m h;
       most-h = omega (arith, side-le m h (t .some-h), t .most-h);
     }
+
+-- a cubemap's level has six faces
+pub six-faces : (w h m : ℕ) → planeOf cubemap w h m .faces ≡ 6
+unfolding planeOf facesOf
+six-faces w h m = refl
 
 -- by coordinates
 module _ {kind w h : ℕ} (l : List ℕ) (m : ℕ) (c : Chained kind w h (length l)) (below : m ≤ top w h) (s t : Mode) (u v : Lanes) where

@@ -21,7 +21,7 @@ ghost use Rattle.lane.specs.Cubes.{loweredPlace, AllOnCube, cubeFour};
 ghost use Rattle.places.specs.Sized.{Sized};
 
 // The place of the nearest texel on a face.
-fn cube_place(p: Plane, s: Spot) -> usize
+pub fn cube_place(p: Plane, s: Spot) -> usize
     requires { ⌜ Sized p × (p .faces ≡ 6) × OnCube s ⌝ }
     ensures { λ r. ⌜ r ≡ cubePlace p s ⌝ }
 {

@@ -1,20 +1,29 @@
 // The trilinear cubemap lookup: two levels, blended by the fraction between them.
-use crate::cubemap::cube_places;
+use crate::cubemap::cube_place;
+use crate::plane::plane;
 use crate::reading::Four;
+use crate::spots::spot_a;
+use crate::spots::spot_b;
+use crate::spots::spot_c;
+use crate::spots::spot_d;
 use places::cube::lerp;
 use places::cube::pairing;
 use rules::Directions;
 use rules::Lanes;
+use rules::Spot;
 use rules::Spots;
 use rules::Wholes;
 ghost use mathlib.Core.Path.{_≡_};
-ghost use Prim.Native.Nat.{_≤_};
+ghost use Prim.Native.Nat.{suc, _≤_};
 ghost use lib.Ieee.Scale.{finite};
 ghost use Rattle.rules.specs.Kinds.{cubemap, facesOf};
+ghost use Rattle.rules.specs.Sizes.{top};
 ghost use Rattle.rules.proofs.Refusing.{Taken};
 ghost use Rattle.rules.proofs.RefusingLookups.{EachLane};
+ghost use Rattle.places.specs.Sized.{Below};
+ghost use Rattle.places.specs.Spots.{OnCube};
 ghost use Rattle.levels.specs.Starts.{Started};
-ghost use Rattle.lane.specs.Cubes.{AllOnCube, cubeFour, twoLevels, lerpLanes, lerpColours};
+ghost use Rattle.lane.specs.Cubes.{loweredPlace, AllOnCube, cubeFour, twoLevels, lerpLanes, lerpColours};
 
 // The lower and the upper levels of four lanes, and how far each lane lies between its two.
 pub struct TwoLevels {
@@ -26,7 +35,7 @@ pub struct TwoLevels {
 // The two levels of four lanes' fractional levels.
 pub fn two_levels(levels: Lanes, top: usize) -> TwoLevels
     requires { ⌜ EachLane finite levels × (top ≤ 12) ⌝ }
-    ensures { λ r. ⌜ r ≡ twoLevels levels top ⌝ }
+    ensures { λ r. ⌜ (r ≡ twoLevels levels top) × Below (suc top) (r .low) × Below (suc top) (r .high) ⌝ }
 {
     let a = pairing(levels.a, top);
     let b = pairing(levels.b, top);
@@ -60,14 +69,35 @@ pub struct Eight {
     pub high: Four,
 }
 
-// Two cubemap lookups.
+// Where a lane reads a level of the picture: no level is lowered.
+fn level_place(starts: &[u32], width: u32, height: u32, s: Spot, level: u32) -> usize
+    requires { ⌜ Taken cubemap width height × Started (facesOf cubemap) width height (now starts) × OnCube s × (level ≤ top width height) ⌝ }
+    ensures { λ r. ⌜ r ≡ loweredPlace width height s level ⌝ }
+{
+    cube_place(plane(starts, 3, width, height, level), s)
+}
+
+// The places of four lanes at levels of the picture.
+fn level_four(starts: &[u32], width: u32, height: u32, s: Spots, levels: Wholes) -> Four
+    requires { ⌜ Taken cubemap width height × Started (facesOf cubemap) width height (now starts) × AllOnCube s × Below (suc (top width height)) levels ⌝ }
+    ensures { λ r. ⌜ r ≡ cubeFour width height s levels ⌝ }
+{
+    Four {
+        a: level_place(starts, width, height, spot_a(s), levels.a),
+        b: level_place(starts, width, height, spot_b(s), levels.b),
+        c: level_place(starts, width, height, spot_c(s), levels.c),
+        d: level_place(starts, width, height, spot_d(s), levels.d),
+    }
+}
+
+// The places of a trilinear lookup.
 pub fn level_places(starts: &[u32], width: u32, height: u32, s: Spots, m: TwoLevels) -> Eight
-    requires { ⌜ Taken cubemap width height × Started (facesOf cubemap) width height (now starts) × AllOnCube s ⌝ }
+    requires { ⌜ Taken cubemap width height × Started (facesOf cubemap) width height (now starts) × AllOnCube s × Below (suc (top width height)) (m .low) × Below (suc (top width height)) (m .high) ⌝ }
     ensures { λ r. ⌜ r ≡ record { low = cubeFour width height s (m .low); high = cubeFour width height s (m .high) } ⌝ }
 {
     Eight {
-        low: cube_places(starts, width, height, s, m.low),
-        high: cube_places(starts, width, height, s, m.high),
+        low: level_four(starts, width, height, s, m.low),
+        high: level_four(starts, width, height, s, m.high),
     }
 }
 

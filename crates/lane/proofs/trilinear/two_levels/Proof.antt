@@ -1,4 +1,4 @@
--- `lane::trilinear::two_levels` meets its contract: no level is above 12. Assumes nothing.
+-- `lane::trilinear::two_levels` meets its contract: no level is above the top. Assumes nothing.
 use mathlib.Core.Path.{sym, subst}
 use native.Mathlib.Omega.{arith}
 use lib.Dec.{T}
@@ -45,8 +45,15 @@ cast-t15 c = let d = c .before .before .before .before .before .before .before .
 returns : tie.Need-returns
 unfolding twoLevels
 returns c =
-    let d = c .before .before .before .before .before .before .before .before in
-    rw (d .before .before .before .pairing .ensures .0, d .before .before .pairing2 .ensures .0, d .before .pairing3 .ensures .0, d .pairing4 .ensures .0)
+    let q = c .before .before .before .before .before .before .before .before in
+    let a = q .before .before .before .pairing .ensures in
+    let b = q .before .before .pairing2 .ensures in
+    let k = q .before .pairing3 .ensures in
+    let d = q .pairing4 .ensures in (
+      rw (a .0, b .0, k .0, d .0),
+      record { in-a = omega (arith, a .1); in-b = omega (arith, b .1); in-c = omega (arith, k .1); in-d = omega (arith, d .1) },
+      record { in-a = omega (arith, a .2); in-b = omega (arith, b .2); in-c = omega (arith, k .2); in-d = omega (arith, d .2) },
+    )
 
 pub two-levels-spec : {M : Type 1} → statement M
 two-levels-spec =

@@ -81,8 +81,10 @@ slice-aggregate-level-places c = search needs
 
 level-places-requires : tie.Need-level-places-requires
 level-places-requires c κs =
-    let k = c .before .before .before .before .before in
-    (cube-chained (facts k) .taken, rw (← facts k .cube) (k .before .before .before .before .cubemap-facing .ensures .1 (given k .0) .0), met k)
+    let m = c .before in
+    let k = m .before .before .before .before in
+    let t = m .two-levels .ensures in
+    (cube-chained (facts k) .taken, rw (← facts k .cube) (k .before .before .before .before .cubemap-facing .ensures .1 (given k .0) .0), met k, rw (← m .before .top-level .ensures) (t .1), rw (← m .before .top-level .ensures) (t .2))
 
 rgb-four-requires : tie.Need-rgb-four-requires
 rgb-four-requires c κs =
@@ -104,7 +106,7 @@ returns-3 c =
     let m = p .before .before in
     let e = m .before .before in
     let k = e .before .before in
-    trilinear-made _ _ _ _ _ _ (none e) (given k .1) (m .before .top-level .ensures) (m .two-levels .ensures) (p .level-places .ensures) (h .before .rgb-four .ensures) (h .rgb-four2 .ensures) (c .lerp-four .ensures)
+    trilinear-made _ _ _ _ _ _ (none e) (given k .1) (m .before .top-level .ensures) (m .two-levels .ensures .0) (p .level-places .ensures) (h .before .rgb-four .ensures) (h .rgb-four2 .ensures) (c .lerp-four .ensures)
 
 pub sample-cubemap-trilinear-rgb-spec : {M : Type 1} → statement M
 sample-cubemap-trilinear-rgb-spec =
