@@ -17,6 +17,7 @@ pub struct Wrapped {
     pub t: Mode,
 }
 
+// The same, or the refusal.
 pub enum Lookup {
     In(Wrapped),
     Refused(u32),

@@ -32,6 +32,7 @@ fn places_number(found: Places) -> u32
     }
 }
 
+// What both calls share: the refusals, then the places.
 fn sample4_places(
     kind: u32,
     width: u32,
