@@ -25,6 +25,8 @@ use Rattle.rules.specs.declared.Alpha.{Alpha}
 use Rattle.rules.specs.declared.Alpha.the-variants.{Of as OfAlpha, Refused as NoAlpha}
 use Rattle.rules.specs.declared.Facing.{Facing}
 use Rattle.rules.specs.declared.Facing.the-variants.{On, Refused as NoFacing}
+use Rattle.rules.specs.declared.Irradiance.{Irradiance}
+use Rattle.rules.specs.declared.Irradiance.the-variants.{Of as OfLight, Refused as NoLight}
 use Rattle.rules.specs.Kinds.{facesOf}
 use Rattle.rules.specs.Sizes.{sideAt, start, count}
 use Rattle.rules.specs.Cuts.{cut}
@@ -39,7 +41,8 @@ use Rattle.rules.specs.Bilinear.{bilinearRgb, bilinearAlpha}
 use Rattle.rules.specs.Faces.{spotOf}
 use Rattle.rules.specs.Cubemap.{cubemapRgb, trilinearRgb}
 use Rattle.rules.specs.Ranges.{rangesOf, rangesSize, replaced, rangeReplaced}
-use Rattle.rules.specs.Refusals.{chainRefusal, levelSizesRefusal, viewRefusal, cutCallRefusal, crossRefusal, mipLevelRefusal, sample4Refusal, bilinearRgbRefusal, bilinearAlphaRefusal, directionsRefusal, cubemapRefusal, trilinearRefusal, rangesRefusal, replaceRefusal}
+use Rattle.rules.specs.Irradiance.{irradianceOf}
+use Rattle.rules.specs.Refusals.{chainRefusal, levelSizesRefusal, viewRefusal, cutCallRefusal, crossRefusal, mipLevelRefusal, sample4Refusal, bilinearRgbRefusal, bilinearAlphaRefusal, directionsRefusal, cubemapRefusal, trilinearRefusal, rangesRefusal, replaceRefusal, irradianceRefusal}
 
 -- the answer where the refusal number is 0, and else what is answered for that number
 unfoldable pub answer : {A : Type 0} → ℕ → (ℕ → A) → A → A
@@ -171,3 +174,7 @@ replaceLeaves kind w h l ranges x y t =
 unfoldable pub replaceRangesLeaves : ℕ → ℕ → ℕ → List ℕ → List ℕ → ℕ → ℕ → ℕ → List ℕ
 replaceRangesLeaves kind w h l ranges x y t =
     leaves (replaceRefusal kind w h (length l) (length ranges) x y) ranges (rangeReplaced w h (replaced w l x y t) ranges x y)
+
+-- the four coefficients of each colour
+unfoldable pub irradianceAnswer : ℕ → ℕ → ℕ → List ℕ → Irradiance
+irradianceAnswer kind w h l = answer (irradianceRefusal kind w h (length l)) NoLight (OfLight (irradianceOf w h l))

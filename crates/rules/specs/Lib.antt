@@ -20,6 +20,7 @@ pub mod Bilinear
 pub mod Faces
 pub mod Cubemap
 pub mod Ranges
+pub mod Irradiance
 pub mod Refusals
 pub mod Answers
 pub mod Series

@@ -192,3 +192,10 @@ rangesRefusal kind w h texels ranges =
 -- replace_texel: 1, 2, 3, 8, 14
 unfoldable pub replaceRefusal : ℕ → ℕ → ℕ → ℕ → ℕ → ℕ → ℕ → ℕ
 replaceRefusal kind w h texels ranges x y = rangesRefusal kind w h texels ranges orElse outsideRefusal w h x y
+
+-- irradiance_sh4: 1, 2, 3 (level 0 only), 8
+unfoldable pub irradianceRefusal : ℕ → ℕ → ℕ → ℕ → ℕ
+irradianceRefusal kind w h n =
+    pictureRefusal kind w h
+    orElse bufferRefusal (facesOf kind * h * w) n
+    orElse onlyCubemapRefusal kind

@@ -153,3 +153,32 @@ pub struct Pairing {
     pub high: usize,
     pub part: f32,
 }
+
+// One direction.
+pub struct Vector {
+    pub x: f32,
+    pub y: f32,
+    pub z: f32,
+}
+
+// A number for each of the four basis functions.
+pub struct Basis {
+    pub constant: f32,
+    pub y: f32,
+    pub z: f32,
+    pub x: f32,
+}
+
+// A colour for each of the four: the irradiance coefficients, or the sums that these are made of.
+pub struct Sh4 {
+    pub constant: Rgb,
+    pub y: Rgb,
+    pub z: Rgb,
+    pub x: Rgb,
+}
+
+// The irradiance coefficients of a cubemap.
+pub enum Irradiance {
+    Of(Sh4),
+    Refused(u32),
+}
