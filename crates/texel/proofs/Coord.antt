@@ -22,7 +22,7 @@ use Rattle.texel.proofs.Range.{le→, Between-finite, in-mul, in-mul-ab
 use Rattle.texel.proofs.Unit.{ends}
 use Rattle.texel.proofs.Same.{round-own}
 
-side-positive : (w : ℕ) → 1 ≤ w → w ≤ 4096 → T (positive (ofInt binary32 (pos w)))
+pub side-positive : (w : ℕ) → 1 ≤ w → w ≤ 4096 → T (positive (ofInt binary32 (pos w)))
 unfolding ofInt
 side-positive w a b = positive-of-value (round binary32 false w 1) w 1 (round-whole binary32 false w (omega arith)) a
 

@@ -3,6 +3,7 @@ pub mod Total
 pub mod Unit
 pub mod Same
 pub mod FromZero
+pub mod Magnitudes
 pub mod Units
 pub mod Unique
 pub mod Patterns

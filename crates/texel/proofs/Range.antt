@@ -157,7 +157,7 @@ units-neg f q k = go (ltb (q * 2 ^ k) (2 ^ (low f + suc (emax f))))
     go true = odd-neg (suc (prec f)) q k (low f)
     go false = refl
 
-round-neg : (f : Format) (a c : ℕ) → round f true a c ≡ neg (round f false a c)
+pub round-neg : (f : Format) (a c : ℕ) → round f true a c ≡ neg (round f false a c)
 unfolding round
 round-neg f a c = units-neg f _ _
 
@@ -388,7 +388,7 @@ mag-le false a c false b d z w h = omega arith
 mag-le false a c true b d z w h = let h' : a * d + 0 * c ≤ 0 * c + 0 * d = rw w at h in rw w (omega arith)
 mag-le true a c t b d z w h = rw z (le-trans (le-of-eq (zero-mul d)) zero-le)
 
-mul-is : (f : Format) (x y : Float) → T (finite x) → T (finite y) → mul f x y ≡ round f (unlike (sgn x) (sgn y)) (num x * num y) (den x * den y)
+pub mul-is : (f : Format) (x y : Float) → T (finite x) → T (finite y) → mul f x y ≡ round f (unlike (sgn x) (sgn y)) (num x * num y) (den x * den y)
 unfolding mul
 mul-is f nan y p q = absurd p
 mul-is f (inf s) y p q = absurd p
@@ -434,7 +434,7 @@ positive-num (inf s) p = absurd p
 positive-num (fin true m e) p = absurd p
 positive-num (fin false m e) p = mul-pos (ltb→lt 0 m p) (up-pos e)
 
-div-is : (f : Format) (x y : Float) → T (finite x) → T (positive y) → div f x y ≡ round f (sgn x) (num x * den y) (num y * den x)
+pub div-is : (f : Format) (x y : Float) → T (finite x) → T (positive y) → div f x y ≡ round f (sgn x) (num x * den y) (num y * den x)
 unfolding div
 div-is f nan y p q = absurd p
 div-is f (inf s) y p q = absurd p

@@ -1,0 +1,3 @@
+-- What the irradiance crate's own parts hold and promise.
+pub mod Holding
+pub mod Turns

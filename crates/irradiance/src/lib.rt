@@ -1,0 +1,11 @@
+// Lighting coefficients: a cubemap as four irradiance coefficients per colour.
+// It stands on the unit's own calls `level_sizes` and `srgb_to_linear`, and on the bytes and the square root of the lower crate.
+pub mod call;
+pub mod part;
+pub mod place;
+pub mod refusals;
+pub mod root;
+pub mod sums;
+pub mod tones;
+
+pub use call::irradiance_sh4;
