@@ -1,6 +1,9 @@
 pub mod Held
-pub mod Rows
 pub mod Roots
 pub mod Spans
-pub mod RefusingLight
 pub mod Texels
+pub mod Turns
+pub mod Each
+pub mod Terms
+pub mod Finite
+pub mod Black

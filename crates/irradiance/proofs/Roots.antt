@@ -15,7 +15,7 @@ use Rattle.rules.specs.NearestValue.{units, nearestRoot}
 use Rattle.rules.specs.Irradiance.{three32}
 use Rattle.rules.specs.Root.{sqrtOf}
 use Rattle.texel.specs.Digits.{Rounded}
-use Rattle.texel.proofs.Range.{Between-finite, le-trans-finite}
+use Rattle.texel.proofs.Magnitudes.{wider}
 use Rattle.texel.proofs.Units.{units-high}
 use Rattle.texel.proofs.Patterns.{positive-below, le-pattern}
 use Rattle.texel.proofs.RootDigits.{near-root}
@@ -75,9 +75,7 @@ pattern-in d f b =
 
 pub from-zero : (d : Float) → Between one32 d three32 → Between zero32 d largest
 unfolding ofBits le
-from-zero d b =
-    let f = Between-finite one32 d three32 tt tt b in
-    record { low = le-trans-finite zero32 one32 d tt tt f tt (b .low); high = le-trans-finite d three32 largest f tt tt (b .high) tt }
+from-zero d b = wider one32 d three32 zero32 largest tt tt tt tt tt tt b
 
 -- ---- the root by its digits
 

@@ -14,19 +14,19 @@ use Rattle.rules.specs.Levels.{texel}
 use Rattle.rules.specs.Floats.{Between, minus1, one32}
 use Rattle.rules.specs.Irradiance.{omegaOf, centreOf, placeBasis, decodedOf, allGet, withTexel}
 use Rattle.irradiance.specs.Holding.{Holds, OnFace}
-use Rattle.irradiance.specs.Turns.{Cube, PartAt}
+use Rattle.irradiance.specs.Turns.{PartAt}
 use Rattle.irradiance.proofs.Spans.{centre-in}
 
 -- the rows of the faces before, and all places of the part
-pub record Within (w h f y from n texels : ℕ) : Type 0 where
+pub record PartIn (w h f y from n texels : ℕ) : Type 0 where
   pub rows : f * h + y < 24576
   pub places : (f * h + y) * w + from + n ≤ 100663296
   pub room : (f * h + y) * w + from + n ≤ texels
 
-pub within : {w h f y from n texels : ℕ} → PartAt w h f y from n texels → Within w h f y from n texels
-within {w} {h} {f} {y} {from} {n} {texels} p =
+pub part-in : {w h f y from n texels : ℕ} → PartAt w h f y from n texels → PartIn w h f y from n texels
+part-in {w} {h} {f} {y} {from} {n} {texels} p =
     let row : f * h + y < 6 * h = digits-lt (p .face) (p .row) in
-    let all = mul-le-mul (few h (p .cube .most-h)) (p .cube .most-w) in
+    let all = mul-le-mul (few h (p .cube .sides .most-h)) (p .cube .sides .most-w) in
     let level0 = p .cube .room in
     let last : (f * h + y + 1) * w ≤ 6 * h * w = mul-le-mul-right w (omega arith) in
     let columns = p .columns in

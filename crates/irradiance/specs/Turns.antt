@@ -1,22 +1,15 @@
 -- A part of a row, and the turns that it takes. Definitions only.
-use Prim.Native.Nat.{ℕ, zero, suc, _+_, _*_, _≤_, _<_}
+use Prim.Native.Nat.{ℕ, zero, suc, _+_, _≤_, _<_}
+use Rattle.rules.proofs.RefusingIrradiance.{Cubed}
 
 -- step from, step (from + 1), …: n of them, one after the other
 unfoldable pub inTurnFrom : {A : Type 0} → ℕ → ℕ → (ℕ → A → A) → A → A
 inTurnFrom from zero step s = s
 inTurnFrom from (suc n) step s = step (from + n) (inTurnFrom from n step s)
 
--- level 0 of a cubemap lies within n texels
-pub record Cube (w h n : ℕ) : Type 0 where
-  pub some-w : 0 < w
-  pub some-h : 0 < h
-  pub most-w : w ≤ 4096
-  pub most-h : h ≤ 4096
-  pub room : 6 * h * w ≤ n
-
 -- up to 64 texels of row y of face f, from a column on
 pub record PartAt (w h f y from n texels : ℕ) : Type 0 where
-  pub cube : Cube w h texels
+  pub cube : Cubed w h texels
   pub face : f < 6
   pub row : y < h
   pub columns : from + n ≤ w

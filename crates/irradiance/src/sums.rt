@@ -9,7 +9,7 @@ ghost use lib.ListN.{length};
 ghost use Rattle.rules.specs.Curve.{curve};
 ghost use Rattle.rules.specs.Irradiance.{inTurn, withTexel, sumsOf};
 ghost use Rattle.irradiance.specs.Holding.{Holds};
-ghost use Rattle.irradiance.specs.Turns.{Cube};
+ghost use Rattle.rules.proofs.RefusingIrradiance.{Cubed};
 
 // The sums with row y of a face.
 fn sum_row(
@@ -21,7 +21,7 @@ fn sum_row(
     y: u32,
     sums: Sh4,
 ) -> Sh4
-    requires { ⌜ Cube width height (length (now texels)) × (face < 6) × (y < height) × Holds 256 curve (now tones) ⌝ }
+    requires { ⌜ Cubed width height (length (now texels)) × (face < 6) × (y < height) × Holds 256 curve (now tones) ⌝ }
     ensures { λ r. ⌜ r ≡ inTurn width (withTexel width height (now (texels .entry)) face y) sums ⌝ }
 {
     let mut s = sums;
@@ -43,7 +43,7 @@ fn sum_face(
     face: u32,
     sums: Sh4,
 ) -> Sh4
-    requires { ⌜ Cube width height (length (now texels)) × (face < 6) × Holds 256 curve (now tones) ⌝ }
+    requires { ⌜ Cubed width height (length (now texels)) × (face < 6) × Holds 256 curve (now tones) ⌝ }
     ensures { λ r. ⌜ r ≡ inTurn height (λ y. inTurn width (withTexel width height (now (texels .entry)) face y)) sums ⌝ }
 {
     let mut s = sums;
@@ -57,7 +57,7 @@ fn sum_face(
 
 // The sums of all faces, each from +0.
 pub fn sum_faces(texels: &[u32], tones: &[f32; 256], width: u32, height: u32) -> Sh4
-    requires { ⌜ Cube width height (length (now texels)) × Holds 256 curve (now tones) ⌝ }
+    requires { ⌜ Cubed width height (length (now texels)) × Holds 256 curve (now tones) ⌝ }
     ensures { λ r. ⌜ r ≡ sumsOf width height (now (texels .entry)) ⌝ }
 {
     let black = Rgb {

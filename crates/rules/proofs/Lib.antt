@@ -8,6 +8,7 @@ pub mod RefusingLookups
 pub mod Bounds
 pub mod Inside
 pub mod RefusingRanges
+pub mod RefusingIrradiance
 pub mod Tiles
 pub mod Building
 pub mod Replacing

@@ -3,7 +3,7 @@
 use mathlib.Core.Path.{_≡_, refl, sym}
 use mathlib.Core.Logic.{_⊎_, inl, inr}
 use mathlib.Core.Bool.{true, false}
-use Prim.Native.Nat.{_*_, _≤_, zero-le}
+use Prim.Native.Nat.{_+_, _*_, _≤_, zero-le}
 use native.Mathlib.Nat.{le-trans, le-of-eq, eq-zero-or-pos, zero-mul}
 use native.Mathlib.Omega.{arith}
 use lib.IntN.{pos}
@@ -20,6 +20,14 @@ no-sign nan f h = absurd f
 no-sign (inf s) f h = absurd f
 no-sign (fin false m e) f h = (refl, refl)
 no-sign (fin true m e) f h = let k = le→ (fin false 0 (pos 0)) (fin true m e) tt tt h in let z : m * up e ≡ 0 = omega arith in (sym z, z)
+
+-- a bound on a value is one on its fraction
+pub fractions-le : (x y : Float) → T (finite x) → T (finite y) → T (le zero32 x) → T (le zero32 y) → T (le x y) → num x * den y ≤ num y * den x
+fractions-le x y p q zx zy h =
+    let s = no-sign x p zx in
+    let t = no-sign y q zy in
+    let k : num x * den y + 0 * den x ≤ num y * den x + 0 * den y = rw (s .0, s .1, t .0, t .1) at (le→ x y p q h) in
+    omega arith
 
 pub fraction-le : (x hi : Float) → T (finite x) → T (positive hi) → T (le zero32 x) → T (le x hi) → num x * den hi ≤ num hi * den x
 fraction-le nan hi f p h k = absurd f

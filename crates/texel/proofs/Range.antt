@@ -645,7 +645,7 @@ sub-is f x y p q = subst₂ (λ (a b : ℕ). Sum f (sub f x y) a b (den x * den 
     as-less s false = ap (λ (z : ℕ). z + num y * den x) (less-mul s (num x) (den y))
 
 -- ---- a value within -a to a, times one above zero that is at most b, lies within -(a * b) to a * b
-neg-neg : (x : Float) → neg (neg x) ≡ x
+pub neg-neg : (x : Float) → neg (neg x) ≡ x
 unfolding neg
 neg-neg nan = refl
 neg-neg (inf true) = refl

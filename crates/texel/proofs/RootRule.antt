@@ -1,10 +1,10 @@
 -- The square root by the nearest-value rule. `sqrtOf x` is the correctly rounded root of x, and no other f32 is: the search finds a pattern
--- that keeps the rule, the rule fixes its pattern, and it sees only the fraction that x is. The root of a value from 0 to 1 lies in 0 to 1.
--- Assumes nothing.
+-- that keeps the rule, the rule fixes its pattern, and it sees only the fraction that x is. The root keeps the order, so a range goes
+-- through it: from 0 to 1 into 0 to 1, from 1 to 4 into 1 to 2. Assumes nothing.
 use mathlib.Core.Path.{_≡_, refl, sym, ap, _∙_, subst, subst₂}
 use mathlib.Core.Logic.{⊎-elim}
 use Prim.Native.Nat.{ℕ, _+_, _-_, _*_, _%_, _^_, _≤_, _<_, zero-le}
-use native.Mathlib.Nat.{le-trans, le-of-eq, le-of-suc-le-suc, lt-of-le-of-lt, lt-of-not-le, not-le-of-lt, zero-mul, mul-one, mul-assoc, mul-right-comm, mul-le-mul-left, mul-le-mul-right, le-of-mul-le-mul-right, mul-lt-mul-of-pos-right, lt-of-mul-lt-mul-right, pow-lt-pow-left}
+use native.Mathlib.Nat.{le-trans, le-of-eq, le-of-suc-le-suc, lt-of-le-of-lt, lt-of-not-le, not-le-of-lt, zero-mul, mul-one, mul-comm, mul-assoc, mul-right-comm, mul-pos, mul-le-mul-left, mul-le-mul-right, le-of-mul-le-mul-right, mul-lt-mul-of-pos-right, lt-of-mul-lt-mul-right, pow-lt-pow-left}
 use native.Mathlib.Omega.{arith}
 use mathlib.Core.Bool.{Bool, true, false}
 use lib.Dec.{T, leb, ltb, eqb, leb→le, ltb→lt, le→leb, lt→ltb, lit<, lit≤}
@@ -13,13 +13,14 @@ use lib.Ieee.{Float, binary32, le, lt, ofBits, toBits, fits}
 use lib.Ieee.Fits.{and-i, and-l, and-r}
 use lib.Ieee.Scale.{finite}
 use lib.Ieee.Positive.{num, den, den-pos, positive, positive-finite}
-use Rattle.rules.specs.Floats.{Between, zero32, one32, largest}
-use Rattle.rules.specs.NearestValue.{units, within, nearestRoot, rootPattern}
+use Rattle.rules.specs.Floats.{Between, zero32, one32, two32, four32, largest}
+use Rattle.rules.specs.NearestValue.{units, within, nearestRoot, reaches, found, rootPattern}
 use Rattle.rules.specs.Root.{RootOf, sqrtOf}
 use Rattle.texel.proofs.Range.{plus, less, sgn, lt→, →lt, positive-num, positive-sign, Between-finite, le-trans-finite}
-use Rattle.texel.proofs.FromZero.{no-sign, fraction-le, zero-or-above}
+use Rattle.texel.proofs.FromZero.{no-sign, fractions-le, fraction-le, zero-or-above}
+use Rattle.texel.proofs.Magnitudes.{wider}
 use Rattle.texel.proofs.Units.{units-le, units-lt}
-use Rattle.texel.proofs.Unique.{reached-le, nearest-reached, unique, mul-pow, nearest-found}
+use Rattle.texel.proofs.Unique.{reached-le, nearest-reached, nearest-mono, unique, mul-pow, nearest-found}
 use Rattle.texel.proofs.Patterns.{pattern-le, cross}
 
 -- ---- the rule sees only the fraction: n / d is n' / d'
@@ -98,6 +99,35 @@ root-of x b = record {
 pub root-is : (x r : Float) → Between zero32 x largest → RootOf x r → r ≡ sqrtOf x
 root-is x r b k = root-unique x r (sqrtOf x) k (root-of x b)
 
+-- ---- the root keeps the order, so a range goes through it
+pub root-mono : (x y : Float) → Between zero32 x largest → Between zero32 y largest → T (le x y) → T (le (sqrtOf x) (sqrtOf y))
+unfolding ofBits
+root-mono x y b k h =
+    let r = root-of x b in
+    let s = root-of y k in
+    let D = mul-pos (den-pos x) (den-pos y) in
+    rw (r .is, s .is)
+    (pattern-le (r .pattern) (s .pattern)
+    (nearest-mono 1 (num x * den y) (num y * den x) (den x * den y) (r .pattern) (s .pattern) D
+    (fractions-le x y (Between-finite zero32 x largest tt tt b) (Between-finite zero32 y largest tt tt k) (b .low) (k .low) h)
+    (nearest-same 2 (num x) (den x) (num x * den y) (den x * den y) (r .pattern) (den-pos x) D (one (num x) (den x) (den y)) (r .nearest))
+    (nearest-same 2 (num y) (den y) (num y * den x) (den x * den y) (s .pattern) (den-pos y) D (two (num y) (den x) (den y)) (s .nearest)))
+    (s .small))
+  where
+    one : (n c d : ℕ) → n * (c * d) ≡ n * d * c
+    one n c d = simp (mul-assoc, mul-comm)
+
+    two : (n c d : ℕ) → n * (c * d) ≡ n * c * d
+    two n c d = sym (mul-assoc n c d)
+
+pub in-root : (lo x hi : Float) → Between zero32 lo largest → Between zero32 hi largest → Between lo x hi → Between (sqrtOf lo) (sqrtOf x) (sqrtOf hi)
+unfolding ofBits
+in-root lo x hi l h b =
+    let L = Between-finite zero32 lo largest tt tt l in
+    let H = Between-finite zero32 hi largest tt tt h in
+    let k = wider lo x hi zero32 largest L H tt tt (l .low) (h .high) b in
+    record { low = root-mono lo x l k (b .low); high = root-mono x hi k h (b .high) }
+
 -- ---- the root of a value from 0 to 1
 one-largest : T (le one32 largest)
 unfolding ofBits le
@@ -108,12 +138,13 @@ unfolding ofBits
 widen {x} b = record { low = b .low; high = le-trans-finite x one32 largest (Between-finite zero32 x one32 tt tt b) tt tt (b .high) one-largest }
 
 pub root-in : (x : Float) → Between zero32 x one32 → Between zero32 (sqrtOf x) one32
-unfolding ofBits units
-root-in x b =
-    let k = root-of x (widen b) in
-    let f = Between-finite zero32 x one32 tt tt b in
-    let l = at-most (num x) (den x) (k .pattern) 1065353216 (den-pos x) (in-units (num x) (den x) 1 (units 1065353216) (fraction-le x one32 f tt (b .low) (b .high)) (lit≤ tt)) (k .nearest) in
-    rw (k .is) (record { low = pattern-le 0 (k .pattern) zero-le (k .small); high = pattern-le (k .pattern) 1065353216 l (lit< tt) })
+unfolding ofBits le sqrtOf rootPattern found reaches units
+root-in x b = in-root zero32 x one32 (record { low = tt; high = tt }) (record { low = tt; high = tt }) b
+
+-- ---- and from 1 to 4
+pub root-from-one : (x : Float) → Between one32 x four32 → Between one32 (sqrtOf x) two32
+unfolding ofBits le sqrtOf rootPattern found reaches units
+root-from-one x b = in-root one32 x four32 (record { low = tt; high = tt }) (record { low = tt; high = tt }) b
 
 -- ---- from the code to the rule: the root of a value above zero by its pattern, and that of a zero
 pub root-of-pattern : (x : Float) (p : ℕ) → Between zero32 x largest → T (fits binary32 x) → T (positive x) → T (nearestRoot 2 (units (toBits binary32 x)) (2 ^ 149) p) → p < 2139095040 → ofBits binary32 p ≡ sqrtOf x

@@ -2,7 +2,7 @@
 use mathlib.Core.Path.{ap, _∙_}
 use Rattle.rules.specs.Irradiance.{foldedOf, irradianceOf}
 use Rattle.rules.proofs.RefusingRanges.{passed}
-use Rattle.irradiance.proofs.RefusingLight.{lit-cube, light-stops, light-goes}
+use Rattle.rules.proofs.RefusingIrradiance.{light-facts, light-stops, light-goes}
 use borrow.Author.Needs.{needs}
 use Rattle.irradiance.proofs.call.irradiance_sh4.Statement.{statement}
 use Rattle.irradiance.proofs.call.irradiance_sh4.Tie as tie
@@ -19,7 +19,7 @@ tones-requires c κs = search needs
 sum-faces-requires : tie.Need-sum-faces-requires
 sum-faces-requires c κs =
     let past = c .before .before in
-    (lit-cube _ _ _ _ (passed (past .before .irradiance-refusal .ensures) (past .if1 .left)), c .before .tones .ensures)
+    (light-facts _ _ _ _ (passed (past .before .irradiance-refusal .ensures) (past .if1 .left)), c .before .tones .ensures)
 
 folded-requires : tie.Need-folded-requires
 folded-requires c κs = search needs

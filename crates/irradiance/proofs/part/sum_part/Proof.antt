@@ -9,8 +9,8 @@ use Rattle.rules.specs.Irradiance.{withTexel}
 use Rattle.irradiance.specs.Holding.{OnFace}
 use Rattle.irradiance.specs.Turns.{inTurnFrom}
 use Rattle.irradiance.proofs.Spans.{centre-in}
-use Rattle.irradiance.proofs.Rows.{from-first, from-next, from-all}
-use Rattle.irradiance.proofs.Texels.{Within, within, on-face, turn}
+use Rattle.irradiance.proofs.Turns.{from-first, from-next, from-all}
+use Rattle.irradiance.proofs.Texels.{PartIn, part-in, on-face, turn}
 use Rattle.irradiance.proofs.part.sum_part.Statement.{statement}
 use Rattle.irradiance.proofs.part.sum_part.Tie as tie
 
@@ -21,20 +21,20 @@ Inv-loop texels tones width height face y from n omega v us near row at s₀ i�
 abbrev μ-loop : tie.MeasureT-loop
 μ-loop texels tones width height face y from n omega v us near row at s₀ i₀ s i = n - i
 
-inside : (c : tie.Start Inv-loop μ-loop) → let a = c .args in Within (a .width) (a .height) (a .face) (a .y) (a .from) (a .n) (length (a .texels .now))
-inside c = within (c .pre .0)
+inside : (c : tie.Start Inv-loop μ-loop) → let a = c .args in PartIn (a .width) (a .height) (a .face) (a .y) (a .from) (a .n) (length (a .texels .now))
+inside c = part-in (c .pre .0)
 
 texel-omega-requires : tie.Need-texel-omega-requires Inv-loop μ-loop
-texel-omega-requires c κs = let p = c .before .pre .0 .cube in (p .most-w, p .most-h)
+texel-omega-requires c κs = let p = c .before .pre .0 .cube .sides in (p .most-w, p .most-h)
 
 centre-requires : tie.Need-centre-requires Inv-loop μ-loop
-centre-requires c κs = let p = c .before .before .pre .0 in (p .row, p .cube .most-h)
+centre-requires c κs = let p = c .before .before .pre .0 in (p .row, p .cube .sides .most-h)
 
 slice-aggregate-centres : tie.Need-slice-aggregate-centres Inv-loop μ-loop
 slice-aggregate-centres c = search needs
 
 centres-requires : tie.Need-centres-requires Inv-loop μ-loop
-centres-requires c κs = let p = c .before .before .before .before .pre .0 in (p .few, p .columns, p .cube .most-w)
+centres-requires c κs = let p = c .before .before .before .before .pre .0 in (p .few, p .columns, p .cube .sides .most-w)
 
 slice-aggregate-guesses : tie.Need-slice-aggregate-guesses Inv-loop μ-loop
 slice-aggregate-guesses c = search needs
@@ -44,14 +44,14 @@ slice-aggregate-guesses-2 c = search needs
 
 -- the columns' places lie on the face, and so does the row's
 columns : (c : tie.After-near Inv-loop μ-loop) → OnFace (c .before .before .before .before .before .before .before .before .args .n) (c .before .before .before .centres .last .1 .1 .1 .0)
-columns c = let p = c .before .before .before .before .before .before .before .before .pre .0 in on-face _ _ _ _ (p .columns) (p .cube .most-w) (c .before .before .before .centres .ensures)
+columns c = let p = c .before .before .before .before .before .before .before .before .pre .0 in on-face _ _ _ _ (p .columns) (p .cube .sides .most-w) (c .before .before .before .centres .ensures)
 
 guesses-requires : tie.Need-guesses-requires Inv-loop μ-loop
 guesses-requires c κs =
     let p = c .before .before .before .before .before .before .before .before .pre .0 in
     let n = p .few in
     let long = c .before .before .before .centres .kept .1 .1 .1 .0 in
-    (rw long (omega arith), n, rw (c .before .before .before .before .before .centre .ensures) (centre-in _ _ (p .row) (p .cube .most-h)), columns c)
+    (rw long (omega arith), n, rw (c .before .before .before .before .before .centre .ensures) (centre-in _ _ (p .row) (p .cube .sides .most-h)), columns c)
 
 mul-row : tie.Need-mul-row Inv-loop μ-loop
 mul-row c = let i = inside (c .before .before .before .before .before .before .before .before .before .before) in omega arith
@@ -84,7 +84,7 @@ place-basis-requires : tie.Need-place-basis-requires Inv-loop μ-loop
 place-basis-requires c κs =
     let near = c .before .before .before .before in
     let p = near .before .before .before .before .before .before .before .before .pre .0 in
-    (columns near .within _ (omega arith), rw (near .before .before .before .before .before .centre .ensures) (centre-in _ _ (p .row) (p .cube .most-h)))
+    (columns near .within _ (omega arith), rw (near .before .before .before .before .before .centre .ensures) (centre-in _ _ (p .row) (p .cube .sides .most-h)))
 
 add-decoded : tie.Need-add-decoded Inv-loop μ-loop
 add-decoded c = let i = inside (c .before .before .before .before .before .before .before .before .before .before .before .before .before) in omega arith

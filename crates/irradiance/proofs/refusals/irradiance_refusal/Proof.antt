@@ -5,7 +5,7 @@ use native.Mathlib.Omega.{arith}
 use Rattle.rules.specs.Refusals.{pictureRefusal}
 use Rattle.rules.proofs.Refusing.{Taken, picture-facts, cube-taken, cube-refused}
 use Rattle.rules.proofs.RefusingRanges.{level0-refused, level0-given}
-use Rattle.irradiance.proofs.RefusingLight.{level0-cube, level0-flat, light-picture, light-short, light-kind}
+use Rattle.rules.proofs.RefusingIrradiance.{level0-cube, level0-flat, light-picture, light-short, light-kind}
 use borrow.Author.Needs.{needs}
 use Rattle.irradiance.proofs.refusals.irradiance_refusal.Statement.{statement}
 use Rattle.irradiance.proofs.refusals.irradiance_refusal.Tie as tie

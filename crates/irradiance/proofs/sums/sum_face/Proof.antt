@@ -3,7 +3,7 @@ use mathlib.Core.Path.{_≡_, refl, sym, ap, _∙_}
 use Prim.Native.Nat.{ℕ, _-_, _≤_}
 use native.Mathlib.Omega.{arith}
 use Rattle.rules.specs.Irradiance.{inTurn, withTexel}
-use Rattle.irradiance.proofs.Rows.{turn-first, turn-next, turn-all}
+use Rattle.irradiance.proofs.Turns.{turn-first, turn-next, turn-all}
 use Rattle.irradiance.proofs.sums.sum_face.Statement.{statement}
 use Rattle.irradiance.proofs.sums.sum_face.Tie as tie
 

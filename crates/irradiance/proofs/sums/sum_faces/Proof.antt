@@ -4,7 +4,7 @@ use mathlib.Core.Path.{_≡_}
 use Prim.Native.Nat.{_-_, _≤_}
 use native.Mathlib.Omega.{arith}
 use Rattle.rules.specs.Irradiance.{inTurn, withTexel, unlit, sumsOf}
-use Rattle.irradiance.proofs.Rows.{turn-first, turn-next, turn-all}
+use Rattle.irradiance.proofs.Turns.{turn-first, turn-next, turn-all}
 use Rattle.irradiance.proofs.sums.sum_faces.Statement.{statement}
 use Rattle.irradiance.proofs.sums.sum_faces.Tie as tie
 

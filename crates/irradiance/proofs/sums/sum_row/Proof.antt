@@ -5,7 +5,7 @@ use native.Mathlib.Omega.{arith}
 use borrow.Author.Needs.{needs}
 use Rattle.rules.specs.Irradiance.{inTurn, withTexel}
 use Rattle.irradiance.specs.Turns.{inTurnFrom}
-use Rattle.irradiance.proofs.Rows.{turn-first, turn-part, turn-all}
+use Rattle.irradiance.proofs.Turns.{turn-first, turn-part, turn-all}
 use Rattle.irradiance.proofs.sums.sum_row.Statement.{statement}
 use Rattle.irradiance.proofs.sums.sum_row.Tie as tie
 
@@ -34,7 +34,7 @@ sum-part-requires c κs =
     (record { cube = p .0; face = p .1; row = p .2; columns = omega arith; few = omega arith }, p .3)
 
 add-x : tie.Need-add-x Inv-loop μ-loop
-add-x c = let e = c .before .smaller .ensures in let p = c .before .before .before .before .before .pre .0 in let m = p .most-w in omega arith
+add-x c = let e = c .before .smaller .ensures in let p = c .before .before .before .before .before .pre .0 in let m = p .sides .most-w in omega arith
 
 loop-less : tie.Need-loop-less Inv-loop μ-loop
 loop-less c = let e = c .before .smaller .ensures in let t = c .before .before .loop-test .taken in omega arith
