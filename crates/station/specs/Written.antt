@@ -23,6 +23,9 @@ use Rattle.rules.specs.declared.Alpha.{Alpha}
 use Rattle.rules.specs.declared.Alpha.the-variants.{Of, Refused as NoAlpha}
 use Rattle.rules.specs.declared.Facing.{Facing}
 use Rattle.rules.specs.declared.Facing.the-variants.{On, Refused as NoFacing}
+use Rattle.rules.specs.declared.Rgb.{Rgb as Tone}
+use Rattle.rules.specs.declared.Irradiance.{Irradiance}
+use Rattle.rules.specs.declared.Irradiance.the-variants.{Of as OfLight, Refused as NoLight}
 use Rattle.rules.specs.Kinds.{facesOf}
 use Rattle.rules.specs.Sizes.{sideAt}
 use Rattle.rules.specs.View.{faceStart}
@@ -125,3 +128,15 @@ facesWritten (NoFacing n) found = found
 unfoldable pub viewWritten : ℕ → ℕ → ℕ → ℕ → ℕ → ℕ → List ℕ → List ℕ
 viewWritten kind w h n m f found =
     leaves (viewRefusal kind w h n m f) found (faceStart (facesOf kind) w h m f ∷ sideAt m h * sideAt m w ∷ [])
+
+-- irradiance_sh4: coefficient by coefficient, red, green, blue of each
+abbrev pub fromRgb : Tone → List Float
+fromRgb c = c .r ∷ c .g ∷ c .b ∷ []
+
+abbrev pub lightNumber : Irradiance → ℕ
+lightNumber (OfLight s) = 0
+lightNumber (NoLight n) = n
+
+abbrev pub lightWritten : Irradiance → List Float → List Float
+lightWritten (OfLight s) found = fromRgb (s .constant) ++ (fromRgb (s .y) ++ (fromRgb (s .z) ++ fromRgb (s .x)))
+lightWritten (NoLight n) found = found

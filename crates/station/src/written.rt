@@ -3,12 +3,13 @@ use rules::Alpha;
 use rules::Colour;
 use rules::Facing;
 use rules::Filled;
+use rules::Irradiance;
 use rules::Lanes;
 use rules::Level;
 use rules::Sizes;
 use rules::Written;
 ghost use mathlib.Core.Path.{_≡_};
-ghost use Rattle.station.specs.Written.{sizesNumber, sizesWritten, filledNumber, filledWritten, bytesNumber, bytesWritten, levelNumber, levelWritten, colourNumber, colourWritten, alphaNumber, alphaWritten, facingNumber, uvWritten, facesWritten};
+ghost use Rattle.station.specs.Written.{sizesNumber, sizesWritten, filledNumber, filledWritten, bytesNumber, bytesWritten, levelNumber, levelWritten, colourNumber, colourWritten, alphaNumber, alphaWritten, facingNumber, uvWritten, facesWritten, lightNumber, lightWritten};
 
 pub fn sizes_out(answer: Sizes, sizes: &mut [u64; 4]) -> u32
     ensures number { λ r. ⌜ r ≡ sizesNumber answer ⌝ }
@@ -111,5 +112,22 @@ pub fn facing_out(answer: Facing, uv: &mut [f32; 8], faces: &mut [u32; 4]) -> u3
             0
         }
         Facing::Refused(n) => n,
+    }
+}
+
+pub fn light_out(answer: Irradiance, sh: &mut [f32; 12]) -> u32
+    ensures number { λ r. ⌜ r ≡ lightNumber answer ⌝ }
+    ensures writes { λ _. ⌜ now (sh .exit) ≡ lightWritten answer (now (sh .entry)) ⌝ }
+{
+    match answer {
+        Irradiance::Of(s) => {
+            let c = s.constant;
+            let y = s.y;
+            let z = s.z;
+            let x = s.x;
+            *sh = [c.r, c.g, c.b, y.r, y.g, y.b, z.r, z.g, z.b, x.r, x.g, x.b];
+            0
+        }
+        Irradiance::Refused(n) => n,
     }
 }
