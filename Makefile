@@ -1,5 +1,5 @@
 # make demo, make test: all the set-up that is needed, nothing else. The rest is for whoever works on the unit.
-.PHONY: demo test archive samples sheet sheets differential real-time bench instructions answers proof-times
+.PHONY: demo test archive samples sheet ball sheets differential real-time bench instructions answers proof-times
 
 CC ?= cc
 CFLAGS = -std=c11 -O2 -Wall -Wextra -Werror -Iinclude
@@ -8,6 +8,8 @@ PLAIN = cargo run --quiet --release --offline --manifest-path bindings/compare/C
 MACHINE = . tools/machine
 SHEET = $(MACHINE) && python3 tools/sheet.py "$$runner target/chain"
 FRAMED = --saturated "$$runner target/ranges"
+BALL = $(MACHINE) && can "the ball" "$$no_rust" && cargo run --quiet --offline $$cross_cargo --manifest-path bindings/rust/Cargo.toml --example lit_ball
+PNG = python3 -B tools/png.py
 export SWATHECOLD_LIB = $(CURDIR)/target/staticlib
 export CARGO_TARGET_DIR = $(CURDIR)/target/cargo
 
@@ -35,11 +37,17 @@ PICTURE ?= samples/hammered_grey.txr
 sheet: target/chain target/ranges
 	$(SHEET) $(PICTURE) target/sheet.png $(if $(SATURATED),$(FRAMED))
 
-# The sheets that the README shows.
+# make ball STUDIO=samples/studio.txr: a grey ball in the studio's light, target/ball.png.
+STUDIO ?= samples/studio.txr
+ball: archive
+	$(BALL) $(STUDIO) | $(PNG) target/ball.png
+
+# The pictures that the README shows.
 sheets: target/chain target/ranges
 	$(SHEET) samples/hammered_grey.txr docs/levels.png
 	$(SHEET) samples/hammered_grey.txr docs/accident.png --accident
 	$(SHEET) samples/sprayed_sheet.txr docs/saturated.png $(FRAMED)
+	$(BALL) samples/studio.txr | $(PNG) docs/lit_ball.png
 
 # The long comparison with document 01 read plainly and, where they are given (SWRASTER_SRC), the station's own sources.
 differential: archive

@@ -97,6 +97,12 @@ uint32_t swathecold_build_ranges(uint32_t kind, uint32_t width, uint32_t height,
 uint32_t swathecold_replace_texel(uint32_t kind, uint32_t width, uint32_t height, uint32_t *texels, size_t texels_len,
                                   uint8_t *ranges, size_t ranges_len, uint32_t x, uint32_t y, uint32_t texel);
 
+/* The light of a cubemap's level 0, decoded by the sRGB curve, as four irradiance coefficients: constant, y, z, x, and of each its
+ * red, green, blue. On a surface with unit normal n falls sh[c] + sh[3 + c] * n.y + sh[6 + c] * n.z + sh[9 + c] * n.x, c being 0, 1,
+ * 2 for red, green, blue. The sums are f32, which rounds off the light of large faces: lend a level with sides up to 256. */
+uint32_t swathecold_irradiance_sh4(uint32_t kind, uint32_t width, uint32_t height, const uint32_t *texels, size_t texels_len,
+                                   float sh[12]);
+
 #ifdef __cplusplus
 }
 #endif

@@ -1,6 +1,6 @@
 /* Links the archive by its header and calls every name in it: document 01's reference items, the edges of levels, document 02's
- * ranges, a refusal of each call, and that a refusal writes nothing. Prints how many checks held; answers 1 at the first that does
- * not. */
+ * ranges and light, a refusal of each call, and that a refusal writes nothing. Prints how many checks held; answers 1 at the first
+ * that does not. */
 #include <math.h>
 #include <stdint.h>
 #include <stdio.h>
@@ -226,6 +226,70 @@ static void texels_replaced(void) {
     expect(!memcmp(texels, expected, sizeof expected) && !memcmp(bytes, beside, sizeof beside), "blue and alpha lose an end, and their ranges shrink");
 }
 
+/* The light of a 1 by 1 cubemap in one colour, decoded face by face. Each texel's middle is its face's: u and v are 0, so d and its
+ * root are 1, the weight is (2 / 1) * (2 / 1) / (1 * 1) = 4, and the direction is the face's axis. */
+static void light_of_six(const float lit[6], float sh[4]) {
+    const float pi = 0x1.921fb6p1f, others = 2.0f * pi / 3.0f, constant = 0.282095f * 4, axis = 0.488603f * 4;
+    const int of_face[6] = {3, 3, 1, 1, 2, 2};
+    float sums[4] = {0, 0, 0, 0};
+    for (int f = 0; f < 6; f++) {
+        sums[0] += lit[f] * constant;
+        sums[of_face[f]] += lit[f] * (f % 2 ? -axis : axis);
+    }
+    sh[0] = sums[0] * pi * 0.282095f;
+    for (int i = 1; i < 4; i++) sh[i] = sums[i] * others * 0.488603f;
+}
+
+/* Whether the call gives the light of six such texels, whose decoded colours stand beside them, and leaves a 13th number alone. */
+static int lights(const uint32_t texels[6], const float red[6], const float green[6], const float blue[6]) {
+    const float *colours[3] = {red, green, blue};
+    float sh[13], expected[13], of_one[4];
+    for (int i = 0; i < 13; i++) sh[i] = expected[i] = 7;
+    for (int c = 0; c < 3; c++) {
+        light_of_six(colours[c], of_one);
+        for (int i = 0; i < 4; i++) expected[3 * i + c] = of_one[i];
+    }
+    return swathecold_irradiance_sh4(CUBEMAP, 1, 1, texels, 6, sh) == 0 && !memcmp(sh, expected, sizeof sh);
+}
+
+static void light(void) {
+    const float none[6] = {0, 0, 0, 0, 0, 0}, full[6] = {1, 1, 1, 1, 1, 1}, zeros[12] = {0};
+    const uint32_t black[6] = {0x00000000, 0x000000FF, 0x00000080, 0x00000001, 0x0000007F, 0x00000000};
+    const uint32_t white[6] = {0xFFFFFFFF, 0xFFFFFF00, 0xFFFFFFFF, 0xFFFFFF80, 0xFFFFFF01, 0xFFFFFFFF};
+    const uint32_t mixed[6] = {0xFF0A0000, 0x0AFF00FF, 0x00FF0A00, 0x0A000AFF, 0x000A0000, 0x0A0AFFFF};
+    const float ten = (float)(1000.0 / 329460.0); /* what the curve makes of 10 */
+    const float reds[6] = {1, ten, 0, ten, 0, ten}, greens[6] = {ten, 1, 1, 0, ten, ten}, blues[6] = {0, 0, ten, ten, 0, 1};
+    char at[64];
+    float sh[12];
+    expect(lights(black, none, none, none), "a black cube: no light, whatever its alpha");
+    expect(swathecold_irradiance_sh4(CUBEMAP, 1, 1, black, 6, sh) == 0 && !memcmp(sh, zeros, sizeof sh), "a black cube: +0 twelve times");
+    expect(lights(white, full, full, full), "a white cube");
+    expect(lights(mixed, reds, greens, blues), "0, 10 and 255 in each colour");
+    for (int f = 0; f < 6; f++) {
+        uint32_t texels[6] = {0, 0, 0, 0, 0, 0};
+        float lit[6] = {0, 0, 0, 0, 0, 0};
+        texels[f] = 0x00FF0000, lit[f] = 1;
+        snprintf(at, sizeof at, "green light from face %d alone", f);
+        expect(lights(texels, none, lit, none), at);
+    }
+    uint32_t room[6 * 16 * 16];
+    memset(room, 0xFF, sizeof room);
+    expect(swathecold_irradiance_sh4(CUBEMAP, 16, 16, room, LEN(room), sh) == 0 && fabsf(sh[0] - 3.1416f) < 0.01f && fabsf(sh[3]) + fabsf(sh[6]) + fabsf(sh[9]) < 1e-5f, "a white cube 16 square: near pi, from everywhere");
+}
+
+static void light_refused(void) {
+    const uint32_t texels[12] = {0xFFFFFFFF};
+    float sh[12], old[12];
+    for (int i = 0; i < 12; i++) sh[i] = old[i] = 7;
+    expect(swathecold_irradiance_sh4(5, 0, 1, texels, 0, sh) == 1, "kind 5: 1 before 2 and 3");
+    expect(swathecold_irradiance_sh4(LINEAR, 0, 1, texels, 0, sh) == 2 && swathecold_irradiance_sh4(CUBEMAP, 1, 4097, texels, 12, sh) == 2, "sides 0 and 4097: 2 before 3 and 8");
+    expect(swathecold_irradiance_sh4(LINEAR, 2, 1, texels, 1, sh) == 3, "a face one short: 3 before 8");
+    expect(swathecold_irradiance_sh4(CUBEMAP, 2, 1, texels, 11, sh) == 3, "six faces one short: refusal 3");
+    expect(swathecold_irradiance_sh4(LINEAR, 2, 1, texels, 2, sh) == 8 && swathecold_irradiance_sh4(SRGB, 2, 1, texels, 12, sh) == 8, "a picture that is no cubemap: refusal 8");
+    expect(!memcmp(sh, old, sizeof sh), "none of them wrote anything");
+    expect(swathecold_irradiance_sh4(CUBEMAP, 2, 1, texels, 12, sh) == 0, "six faces are enough");
+}
+
 int main(void) {
     sizes_and_chain();
     parts();
@@ -236,6 +300,8 @@ int main(void) {
     ranges_refused();
     ranges_built();
     texels_replaced();
+    light();
+    light_refused();
     printf("C boundary: %d checks hold\n", checks);
     return 0;
 }

@@ -145,4 +145,5 @@ extern "C" {
         y: u32,
         texel: u32,
     ) -> u32;
+    pub fn swathecold_irradiance_sh4(kind: u32, width: u32, height: u32, texels: *const u32, len: usize, sh: *mut f32) -> u32;
 }

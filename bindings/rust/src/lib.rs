@@ -2,7 +2,7 @@
 //!
 //! The work is done by a library that is proved, call by call, against a paper of rules. This crate gives it Rust's types: slices
 //! for buffers, [`Refusal`] for the numbers, [`Picture`] for a chain that the unit made itself, [`Ranges`] for the smallest and
-//! largest values of a picture's tiles.
+//! largest values of a picture's tiles, [`IrradianceSh4`] for the light of a cubemap.
 //!
 //! ```
 //! use swathecold::{Picture, TextureType};
@@ -17,16 +17,18 @@
 
 mod boundary;
 mod calls;
+mod irradiance;
 mod picture;
 mod ranges;
 mod refusal;
 mod types;
 
 pub use calls::{
-    build_ranges, compute_mip_level, cubemap_uv_from_normal, cut, cut_cross, generate_mipmaps, level_sizes, level_view,
-    replace_texel, sample4_alpha, sample4_rgb, sample_bilinear_alpha, sample_bilinear_rgb, sample_cubemap_rgb,
+    build_ranges, compute_mip_level, cubemap_uv_from_normal, cut, cut_cross, generate_mipmaps, irradiance_sh4, level_sizes,
+    level_view, replace_texel, sample4_alpha, sample4_rgb, sample_bilinear_alpha, sample_bilinear_rgb, sample_cubemap_rgb,
     sample_cubemap_trilinear_rgb,
 };
+pub use irradiance::IrradianceSh4;
 pub use picture::Picture;
 pub use ranges::{Ranges, Tile};
 pub use refusal::Refusal;

@@ -1,6 +1,7 @@
 //! A picture with its levels, made by the unit.
 
 use crate::calls;
+use crate::irradiance::IrradianceSh4;
 use crate::ranges::Ranges;
 use crate::refusal::Refusal;
 use crate::types::{Cut, Lanes, LevelSizes, Sampler, TextureType, Vec3x4};
@@ -74,6 +75,11 @@ impl Picture {
     /// The ranges of level 0, beside a copy of it that can be changed texel by texel. Refusal: 8 for a cubemap.
     pub fn ranges(&self) -> Result<Ranges, Refusal> {
         Ranges::of(self)
+    }
+
+    /// The light of level 0. See [`crate::irradiance_sh4`] for sides above 256. Refusal: 8 for any kind but a cubemap.
+    pub fn irradiance_sh4(&self) -> Result<IrradianceSh4, Refusal> {
+        calls::irradiance_sh4(self.texture_type, self.width, self.height, &self.texels)
     }
 
     pub fn texture_type(&self) -> TextureType {
