@@ -42,6 +42,8 @@ mod c {
                                        ranges: *mut u8, ranges_len: usize, written: *mut u64) -> u32;
         pub fn swathecold_replace_texel(kind: u32, width: u32, height: u32, texels: *mut u32, texels_len: usize,
                                         ranges: *mut u8, ranges_len: usize, x: u32, y: u32, texel: u32) -> u32;
+        pub fn swathecold_irradiance_sh4(kind: u32, width: u32, height: u32, texels: *const u32, texels_len: usize,
+                                         sh: *mut f32) -> u32;
     }
 }
 
@@ -162,6 +164,12 @@ impl Unit for Boundary {
         unsafe {
             c::swathecold_replace_texel(kind, width, height, texels.as_mut_ptr(), texels.len(), ranges.as_mut_ptr(),
                                         ranges.len(), x, y, texel)
+        }
+    }
+
+    fn irradiance_sh4(&self, p: &Lent, sh: &mut [f32; 12]) -> u32 {
+        unsafe {
+            c::swathecold_irradiance_sh4(p.kind, p.width, p.height, p.texels.as_ptr(), p.texels.len(), sh.as_mut_ptr())
         }
     }
 }

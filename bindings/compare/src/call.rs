@@ -5,7 +5,7 @@ use crate::unit::{Directions, Picture, Unit};
 use std::panic::{catch_unwind, AssertUnwindSafe};
 
 /// The names of the calls, in the order of swathecold.h.
-pub const NAMES: [&str; 15] = [
+pub const NAMES: [&str; 16] = [
     "level_sizes",
     "generate_mipmaps",
     "cut_cross",
@@ -21,6 +21,7 @@ pub const NAMES: [&str; 15] = [
     "sample_cubemap_trilinear_rgb",
     "build_ranges",
     "replace_texel",
+    "irradiance_sh4",
 ];
 
 /// A call of swathecold.h. A buffer that is written is given as it is before the call.
@@ -42,6 +43,7 @@ pub enum Call<'a> {
     SampleCubemapTrilinearRgb { picture: Picture<'a>, directions: Directions, levels: Lanes },
     BuildRanges { picture: Lent<'a>, ranges: &'a [u8] },
     ReplaceTexel { picture: Lent<'a>, ranges: &'a [u8], replacement: Replacement },
+    IrradianceSh4 { picture: Lent<'a> },
 }
 
 impl<'a> Call<'a> {
@@ -63,6 +65,7 @@ impl<'a> Call<'a> {
             Call::SampleCubemapTrilinearRgb { .. } => 12,
             Call::BuildRanges { .. } => 13,
             Call::ReplaceTexel { .. } => 14,
+            Call::IrradianceSh4 { .. } => 15,
         }
     }
 
@@ -78,7 +81,8 @@ impl<'a> Call<'a> {
             Call::Cut { source, .. } => Some(source.kind),
             Call::LevelView { picture, .. }
             | Call::BuildRanges { picture, .. }
-            | Call::ReplaceTexel { picture, .. } => Some(picture.kind),
+            | Call::ReplaceTexel { picture, .. }
+            | Call::IrradianceSh4 { picture } => Some(picture.kind),
             Call::CutCross { .. } | Call::ComputeMipLevel { .. } | Call::CubemapUvFromNormal { .. } => None,
             _ => self.picture().map(|picture| picture.lent.kind),
         }
@@ -97,13 +101,15 @@ impl<'a> Call<'a> {
         }
     }
 
-    /// The texels that it may write, as they are before the call; beside ranges also those that it only reads.
+    /// The texels that it may write, as they are before the call; of document 02's calls also those that it only reads.
     pub fn before(&self) -> &'a [u32] {
         match self {
             Call::GenerateMipmaps { texels, .. } => texels,
             Call::CutCross { faces, .. } => faces,
             Call::Cut { target, .. } => target,
-            Call::BuildRanges { picture, .. } | Call::ReplaceTexel { picture, .. } => picture.texels,
+            Call::BuildRanges { picture, .. }
+            | Call::ReplaceTexel { picture, .. }
+            | Call::IrradianceSh4 { picture } => picture.texels,
             _ => &[],
         }
     }
@@ -126,7 +132,8 @@ impl<'a> Call<'a> {
             Call::Cut { source, .. } => (source.width, source.height),
             Call::LevelView { picture, .. }
             | Call::BuildRanges { picture, .. }
-            | Call::ReplaceTexel { picture, .. } => (picture.width, picture.height),
+            | Call::ReplaceTexel { picture, .. }
+            | Call::IrradianceSh4 { picture } => (picture.width, picture.height),
             _ => self
                 .picture()
                 .map_or((0, 0), |picture| (picture.lent.width, picture.lent.height)),
@@ -206,6 +213,11 @@ fn lend<'a, T: Copy>(buffer: &'a mut Vec<T>, before: &[T], behind: T) -> &'a mut
     &mut buffer[..before.len()]
 }
 
+/// A picture over a copy of its texels.
+fn over<'a>(texels: &'a [u32], picture: &Lent) -> Lent<'a> {
+    Lent { texels, ..*picture }
+}
+
 /// Asks a unit one call. The outcome's buffers are used again, so that many calls take no new memory. A panic is an
 /// answer too, so that one that reads outside its texels is seen as any other that is wrong.
 pub fn ask(unit: &dyn Unit, call: &Call, outcome: &mut Outcome) {
@@ -234,17 +246,14 @@ pub fn ask(unit: &dyn Unit, call: &Call, outcome: &mut Outcome) {
         Call::LevelView { picture, level, face } => wide(words, |part| unit.level_view(picture, *level, *face, part)),
         Call::ComputeMipLevel { width, height, steps } => unit.compute_mip_level(*width, *height, steps, &mut words[0]),
         Call::BuildRanges { picture, .. } => wide::<1>(words, |written| {
-            let copied = Lent {
-                texels: lent,
-                ..*picture
-            };
-            unit.build_ranges(&copied, ranges, &mut written[0])
+            unit.build_ranges(&over(lent, picture), ranges, &mut written[0])
         }),
         Call::ReplaceTexel {
             picture: p,
             replacement,
             ..
         } => unit.replace_texel(p.kind, p.width, p.height, lent, ranges, replacement),
+        Call::IrradianceSh4 { picture } => floats(words, |sh| unit.irradiance_sh4(&over(lent, picture), sh)),
         _ => ask_lookup(unit, call, words),
     });
     outcome.refusal = catch_unwind(answered).unwrap_or(PANICKED);

@@ -1,11 +1,19 @@
-//! Smaller pictures for the two calls on ranges: parts of a call's picture, each lent as the whole was.
+//! Smaller pictures for document 02's calls: parts of a call's picture, each lent as the whole was.
 
 use crate::call::{Call, Outcome, UNTOUCHED};
 use crate::plain::{level_texels, ranges_bytes, Document01, Lent, Replacement};
 use crate::text::first;
 
 /// Sides that parts have: the least, and those around a tile's.
-const SIDES: [u32; 7] = [1, 2, 15, 16, 17, 32, 33];
+const SIDES: [u32; 8] = [1, 2, 3, 15, 16, 17, 32, 33];
+
+/// Which call a part is for.
+#[derive(Clone, Copy)]
+enum Asked {
+    Ranges,
+    Replacement(Replacement),
+    Irradiance,
+}
 
 /// A part with buffers of its own, each as much too short or too long as that of the whole.
 pub struct Part {
@@ -13,7 +21,7 @@ pub struct Part {
     sides: (u32, u32),
     texels: Vec<u32>,
     ranges: Vec<u8>,
-    replacement: Option<Replacement>,
+    asked: Asked,
 }
 
 impl Part {
@@ -27,24 +35,26 @@ impl Part {
             texels: &self.texels,
         };
         let ranges = &self.ranges;
-        match self.replacement {
-            None => Call::BuildRanges { picture, ranges },
-            Some(replacement) => Call::ReplaceTexel {
+        match self.asked {
+            Asked::Ranges => Call::BuildRanges { picture, ranges },
+            Asked::Replacement(replacement) => Call::ReplaceTexel {
                 picture,
                 ranges,
                 replacement,
             },
+            Asked::Irradiance => Call::IrradianceSh4 { picture },
         }
     }
 }
 
 /// Parts of a call's picture: from its corner, and from the corner of the tile where two outcomes differ.
 pub fn parts(call: &Call, expected: &Outcome, got: &Outcome) -> Vec<Part> {
-    let (picture, replacement) = match call {
-        Call::BuildRanges { picture, .. } => (picture, None),
+    let (picture, asked) = match call {
+        Call::BuildRanges { picture, .. } => (picture, Asked::Ranges),
         Call::ReplaceTexel {
             picture, replacement, ..
-        } => (picture, Some(*replacement)),
+        } => (picture, Asked::Replacement(*replacement)),
+        Call::IrradianceSh4 { picture } => (picture, Asked::Irradiance),
         _ => return Vec::new(),
     };
     let columns = picture.width.div_ceil(16).max(1) as usize;
@@ -57,27 +67,23 @@ pub fn parts(call: &Call, expected: &Outcome, got: &Outcome) -> Vec<Part> {
     for corner in [(0, 0), differs] {
         for sides in SIDES.iter().flat_map(|width| SIDES.map(|height| (*width, height))) {
             if is_inside(corner, sides) {
-                parts.push(part(picture, call.ranges_before(), replacement, corner, sides));
+                parts.push(part(picture, call.ranges_before(), asked, corner, sides));
             }
         }
     }
     parts
 }
 
-/// The part with this corner and these sides.
-fn part(
-    picture: &Lent,
-    ranges: &[u8],
-    replacement: Option<Replacement>,
-    corner: (u32, u32),
-    sides: (u32, u32),
-) -> Part {
+/// The part with this corner and these sides, of each face.
+fn part(picture: &Lent, ranges: &[u8], asked: Asked, corner: (u32, u32), sides: (u32, u32)) -> Part {
     let whole = (picture.width, picture.height);
     let level_0 = |sides: (u32, u32)| level_texels::<Document01>(picture.kind, sides.0, sides.1, 0);
     let bytes = |sides: (u32, u32)| ranges_bytes(sides.0, sides.1);
     let texel = |i: usize| {
-        let (x, y) = (i as u32 % sides.0 + corner.0, i as u32 / sides.0 + corner.1);
-        let place = y as usize * picture.width as usize + x as usize;
+        let (column, row) = (i as u32 % sides.0, i as u32 / sides.0);
+        let (x, y) = (column + corner.0, row % sides.1 + corner.1);
+        let row_of_faces = (row / sides.1) as usize * picture.height as usize + y as usize;
+        let place = row_of_faces * picture.width as usize + x as usize;
         picture.texels.get(place).copied().unwrap_or(UNTOUCHED)
     };
     Part {
@@ -87,11 +93,14 @@ fn part(
             .map(texel)
             .collect(),
         ranges: ranges[..as_off(ranges.len(), bytes(whole), bytes(sides)).min(ranges.len())].to_vec(),
-        replacement: replacement.map(|r| Replacement {
-            x: within(r.x, whole.0, corner.0, sides.0),
-            y: within(r.y, whole.1, corner.1, sides.1),
-            texel: r.texel,
-        }),
+        asked: match asked {
+            Asked::Replacement(r) => Asked::Replacement(Replacement {
+                x: within(r.x, whole.0, corner.0, sides.0),
+                y: within(r.y, whole.1, corner.1, sides.1),
+                texel: r.texel,
+            }),
+            other => other,
+        },
     }
 }
 

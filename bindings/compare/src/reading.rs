@@ -92,4 +92,8 @@ impl<R: Rules> Unit for Reading<R> {
                      replacement: &Replacement) -> u32 {
         put(plain::replace_texel::<R>(kind, width, height, texels, ranges, replacement), &mut ())
     }
+
+    fn irradiance_sh4(&self, picture: &Lent, sh: &mut [f32; 12]) -> u32 {
+        put(plain::irradiance_sh4::<R>(picture), sh)
+    }
 }

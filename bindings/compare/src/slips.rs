@@ -201,4 +201,29 @@ slips! {
             std::array::from_fn(|k| if k % 2 == 0 { before[k].min(byte(k)) } else { before[k].max(byte(k)) })
         }
     }
+
+    /// A column before its row.
+    ColumnsBeforeRows {
+        fn place_in_face(number: u32, _width: u32, height: u32) -> (u32, u32) { (number / height, number % height) }
+    }
+
+    /// U from the height.
+    UFromHeight {
+        fn centre(x: u32, y: u32, _width: f32, height: f32) -> (f32, f32) { Document01::centre(x, y, height, height) }
+    }
+
+    /// U*u + v*v first.
+    OneAddedLast { fn squared_length(u: f32, v: f32) -> f32 { u * u + v * v + 1.0 } }
+
+    /// The weight's divisor d times d.
+    WeightBySquare { fn weight(texel_omega: f32, d: f32, _root: f32) -> f32 { texel_omega / (d * d) } }
+
+    /// A direction times 1/root.
+    DirectionByProduct { fn divided(component: f32, root: f32) -> f32 { component * (1.0 / root) } }
+
+    /// Y and z exchanged in the basis.
+    BasisExchanged { fn basis([x, y, z]: [f32; 3]) -> [f32; 4] { Document01::basis([x, z, y]) } }
+
+    /// The colour times the basis first.
+    ColourTimesBasis { fn added(colour: f32, basis: f32, weight: f32) -> f32 { (colour * basis) * weight } }
 }

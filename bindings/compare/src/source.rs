@@ -1,4 +1,5 @@
 //! The source's own text as a unit. It has no refusals, no cut and no ranges: it is asked only what document 01 accepts.
+//! Its coefficients are by other rules than document 02's, and are no part of the comparison.
 
 use crate::call::Call;
 use crate::plain::{Cut, Lanes, Lent, Replacement, CUBEMAP};
@@ -7,7 +8,9 @@ use glam::{UVec4, Vec4};
 use std::cell::RefCell;
 use std::sync::Arc;
 use swraster::math::Vec3x4;
-use swraster::texture::{Filter, Sampler, Texture, TextureAndSampler, TextureCache, TextureType, WrapMode};
+use swraster::texture::{
+    compute_irradiance_sh4, Filter, Sampler, Texture, TextureAndSampler, TextureCache, TextureType, WrapMode,
+};
 
 /// Sizes are taken from a chain that the source makes; of larger pictures than this it makes none for that.
 const LARGEST_FOR_SIZES: u64 = 1 << 20;
@@ -138,7 +141,7 @@ impl Source {
 impl Unit for Source {
     fn has(&self, call: &Call) -> bool {
         match call {
-            Call::Cut { .. } | Call::BuildRanges { .. } | Call::ReplaceTexel { .. } => false,
+            Call::Cut { .. } | Call::BuildRanges { .. } | Call::ReplaceTexel { .. } | Call::IrradianceSh4 { .. } => false,
             Call::LevelSizes { width, height, .. } => *width as u64 * *height as u64 <= LARGEST_FOR_SIZES,
             Call::LevelView { picture, .. } => picture.width as u64 * picture.height as u64 <= LARGEST_FOR_SIZES,
             _ => true,
@@ -245,5 +248,17 @@ impl Unit for Source {
     fn replace_texel(&self, _kind: u32, _width: u32, _height: u32, _texels: &mut [u32], _ranges: &mut [u8],
                      _replacement: &Replacement) -> u32 {
         unreachable!("the source has no ranges")
+    }
+
+    /// With the sampler that the station gives its cubemap.
+    fn irradiance_sh4(&self, p: &Lent, sh: &mut [f32; 12]) -> u32 {
+        let level_0 = p.texels[..p.width as usize * p.height as usize * 6].to_vec();
+        let made = Arc::new(texture(p.kind, p.width, p.height, level_0));
+        let coefficients = compute_irradiance_sh4(&with_codes(made, [33071, 33071]));
+        *sh = std::array::from_fn(|i| {
+            let c = coefficients[i / 3];
+            [c.x, c.y, c.z][i % 3]
+        });
+        0
     }
 }

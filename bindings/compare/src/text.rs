@@ -102,6 +102,7 @@ fn arguments(call: &Call) -> String {
         Call::ComputeMipLevel { width, height, steps } => {
             format!("{width} by {height}, steps {}", Floats(steps))
         }
+        Call::IrradianceSh4 { picture: p } => picture(p),
         Call::BuildRanges { picture: p, ranges } => format!("{}, ranges {}", picture(p), Bytes(ranges)),
         Call::ReplaceTexel {
             picture: p,

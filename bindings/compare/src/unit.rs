@@ -47,4 +47,5 @@ pub trait Unit {
     fn build_ranges(&self, picture: &Lent, ranges: &mut [u8], written: &mut u64) -> u32;
     fn replace_texel(&self, kind: u32, width: u32, height: u32, texels: &mut [u32], ranges: &mut [u8],
                      replacement: &Replacement) -> u32;
+    fn irradiance_sh4(&self, picture: &Lent, sh: &mut [f32; 12]) -> u32;
 }

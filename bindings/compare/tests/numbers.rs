@@ -28,6 +28,7 @@ impl Unit for Always {
     fn sample_cubemap_trilinear_rgb(&self, _: &Picture, _: &Directions, _: &Lanes, _: &mut [f32; 12]) -> u32 { self.0 }
     fn build_ranges(&self, _: &Lent, _: &mut [u8], _: &mut u64) -> u32 { self.0 }
     fn replace_texel(&self, _: u32, _: u32, _: u32, _: &mut [u32], _: &mut [u8], _: &Replacement) -> u32 { self.0 }
+    fn irradiance_sh4(&self, _: &Lent, _: &mut [f32; 12]) -> u32 { self.0 }
 }
 
 /// A call that document 01 accepts.

@@ -9,12 +9,14 @@ use crate::cases::refusals::OF_CALL;
 use crate::cases::spoil::{accepted, of_picture, taken_kind, Arguments, TARGET};
 use crate::cases::values::sides;
 use crate::comparison::ask_reading;
-use crate::plain::{chain_texels, Cut, Document01, NORMAL, SRGB};
+use crate::plain::{chain_texels, Cut, Document01, Lent, CUBEMAP, NORMAL, SRGB};
 use crate::random::Random;
 use crate::reading::Reading;
 
 /// Accepted calls of each number.
-const ACCEPTED: [usize; 15] = [200, 250, 40, 100, 80, 250, 200, 120, 250, 120, 200, 200, 160, 150, 200];
+const ACCEPTED: [usize; 16] = [
+    200, 250, 40, 100, 80, 250, 200, 120, 250, 120, 200, 200, 160, 150, 200, 100,
+];
 
 /// Times that each refusal stands in the list alone; with each later one it stands once.
 const ALONE: usize = 3;
@@ -39,6 +41,7 @@ pub fn sample(seed: u64) -> Vec<Record> {
             accepted_call(&mut list, call);
         }
     }
+    cubemaps(&mut list);
     list.records
 }
 
@@ -57,20 +60,45 @@ impl List {
         self.add(seed, &arguments.call(call));
     }
 
-    /// Adds a chain whose texels stand in the record itself.
-    fn add_written_out(&mut self, kind: u32, width: u32, height: u32, level_0: &[u32]) {
-        let mut texels = level_0.to_vec();
-        texels.resize(chain_texels::<Document01>(kind, width, height) as usize, 0);
+    /// Adds a call whose first texels stand in the record itself.
+    fn add_written_out(&mut self, call: &Call, written_out: &[u32]) {
+        self.add(0, call);
+        let last = self.records.last_mut().expect("one was added");
+        last[ARGUMENTS..ARGUMENTS + written_out.len()].copy_from_slice(written_out);
+    }
+
+    /// Adds a chain over a level 0 that is written out.
+    fn add_chain(&mut self, kind: u32, width: u32, height: u32, level_0: &[u32]) {
+        let texels = followed_by_0(level_0, chain_texels::<Document01>(kind, width, height) as usize);
         let call = Call::GenerateMipmaps {
             kind,
             width,
             height,
             texels: &texels,
         };
-        self.add(0, &call);
-        let last = self.records.last_mut().expect("one was added");
-        last[ARGUMENTS..ARGUMENTS + level_0.len()].copy_from_slice(level_0);
+        self.add_written_out(&call, level_0);
     }
+
+    /// Adds the coefficients of a cubemap that is black but for its first texels.
+    fn add_cubemap(&mut self, width: u32, height: u32, first: &[u32]) {
+        let texels = followed_by_0(first, 6 * (width * height) as usize);
+        let call = Call::IrradianceSh4 {
+            picture: Lent {
+                kind: CUBEMAP,
+                width,
+                height,
+                texels: &texels,
+            },
+        };
+        self.add_written_out(&call, first);
+    }
+}
+
+/// So many texels: these, and 0 behind them.
+fn followed_by_0(texels: &[u32], length: usize) -> Vec<u32> {
+    let mut texels = texels.to_vec();
+    texels.resize(length, 0);
+    texels
 }
 
 /// The reference items that are chains, and flat Normal pictures of every byte up to 64.
@@ -81,10 +109,10 @@ fn items(list: &mut List) {
         (2, 0x11FF0022, 0x3300FF44),
         (0, 0xFF0000FF, 0x000000FF),
     ] {
-        list.add_written_out(kind, 2, 1, &[left, right]);
+        list.add_chain(kind, 2, 1, &[left, right]);
     }
     for byte in 0..=64u32 {
-        list.add_written_out(NORMAL, 2, 1, &[byte * 0x0101_0101; 2]);
+        list.add_chain(NORMAL, 2, 1, &[byte * 0x0101_0101; 2]);
     }
 }
 
@@ -94,7 +122,28 @@ fn curve(list: &mut List) {
     let found: Vec<[u32; 4]> = (0..256).flat_map(|k| fourths.sensitive(k)).flatten().collect();
     for three in found.chunks_exact(3) {
         let texel = |i: usize| three[0][i] << 24 | three[1][i] << 16 | three[2][i] << 8 | 255;
-        list.add_written_out(SRGB, 2, 2, &[texel(0), texel(1), texel(2), texel(3)]);
+        list.add_chain(SRGB, 2, 2, &[texel(0), texel(1), texel(2), texel(3)]);
+    }
+}
+
+/// Cubemaps written out: black with any alpha, white, and black but for one texel on each face in turn.
+fn cubemaps(list: &mut List) {
+    list.add_cubemap(8, 8, &[]);
+    for (width, height) in [(1, 1), (2, 1), (1, 2)] {
+        let texels = 6 * width * height;
+        list.add_cubemap(width, height, &(0..texels).collect::<Vec<u32>>());
+        list.add_cubemap(width, height, &vec![u32::MAX; texels as usize]);
+        for place in 0..texels as usize {
+            let mut first = vec![0xFF; place];
+            first.push(0xFFFF_FFFF);
+            list.add_cubemap(width, height, &first);
+        }
+    }
+    // The corners of the first face.
+    for (side, place) in [(4, 0), (4, 3), (4, 12), (4, 15), (8, 0), (8, 7)] {
+        let mut first = vec![0; place];
+        first.push(0xFF80_01FF);
+        list.add_cubemap(side, side, &first);
     }
 }
 
@@ -128,7 +177,7 @@ fn accepted_call(list: &mut List, call: usize) {
     let (width, height) = sides(&mut list.random);
     let has_buffer = !matches!(call, 0 | 5 | 10);
     let too_long = chain_texels::<Document01>(kind, width, height) as usize + 2 > LONGEST;
-    let mut arguments = if call == 2 || (has_buffer && (too_long || list.random.one_in(3))) {
+    let mut arguments = if matches!(call, 2 | 15) || (has_buffer && (too_long || list.random.one_in(3))) {
         accepted(&mut list.random, call, 0)
     } else {
         of_picture(&mut list.random, call, 0, kind, width, height)

@@ -57,9 +57,10 @@ fn length_read(call: &Call) -> usize {
         Call::GenerateMipmaps { texels, .. } => texels.len(),
         Call::CutCross { bytes, .. } => bytes.len(),
         Call::Cut { source, .. } => source.texels.len(),
-        Call::LevelView { picture, .. } | Call::BuildRanges { picture, .. } | Call::ReplaceTexel { picture, .. } => {
-            picture.texels.len()
-        }
+        Call::LevelView { picture, .. }
+        | Call::BuildRanges { picture, .. }
+        | Call::ReplaceTexel { picture, .. }
+        | Call::IrradianceSh4 { picture } => picture.texels.len(),
         _ => call.picture().map_or(0, |picture| picture.lent.texels.len()),
     }
 }
@@ -72,7 +73,7 @@ fn put_arguments(record: &mut Record, call: &Call) {
     };
     match call {
         Call::LevelSizes { level, .. } => words.put(&[*level]),
-        Call::GenerateMipmaps { .. } => &mut words,
+        Call::GenerateMipmaps { .. } | Call::IrradianceSh4 { .. } => &mut words,
         Call::CutCross { faces, .. } => words.put(&[faces.len() as u32]),
         Call::Cut { cut, target, .. } => words.put(&[
             cut.order,

@@ -87,11 +87,12 @@ pub fn call_of<'a>(record: &Record, buffers: &'a Buffers) -> Call<'a> {
         11 => Call::SampleCubemapRgb { picture, directions, levels: four(record, 12) },
         12 => Call::SampleCubemapTrilinearRgb { picture, directions, levels: lanes(record, 12) },
         13 => Call::BuildRanges { picture: lent, ranges: &buffers.ranges },
-        _ => Call::ReplaceTexel {
+        14 => Call::ReplaceTexel {
             picture: lent,
             ranges: &buffers.ranges,
             replacement: Replacement { x: argument(1), y: argument(2), texel: argument(3) },
         },
+        _ => Call::IrradianceSh4 { picture: lent },
     }
 }
 

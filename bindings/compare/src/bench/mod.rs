@@ -2,6 +2,7 @@
 
 pub mod arguments;
 pub mod chains;
+pub mod irradiance;
 pub mod lookups;
 pub mod ranges;
 
@@ -59,10 +60,18 @@ pub fn time<T>(work: impl FnOnce() -> T) -> Duration {
     start.elapsed()
 }
 
+/// A number of a table.
+fn number(value: Option<f64>) -> String {
+    value.map_or("-".to_string(), |value| format!("{value:.2}"))
+}
+
+/// A ratio of a table.
+fn ratio(a: Option<f64>, b: Option<f64>) -> String {
+    number(a.zip(b).map(|(a, b)| a / b))
+}
+
 /// The rows as a table of times and of ratios to the source and to the floor.
 pub fn table(title: &str, thing: &str, unit: &str, rows: &[Best]) -> String {
-    let number = |value: Option<f64>| value.map_or("-".to_string(), |value| format!("{value:.2}"));
-    let ratio = |a: Option<f64>, b: Option<f64>| number(a.zip(b).map(|(a, b)| a / b));
     let mut text = format!("## {title}\n\n");
     text += &format!("| | {unit} / source | {unit} / memcpy | {unit} | source | memcpy |\n");
     text += "|---|--:|--:|--:|--:|--:|\n";

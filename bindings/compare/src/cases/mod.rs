@@ -8,6 +8,7 @@ mod cubemaps;
 pub mod curve;
 mod cuts;
 mod directions;
+mod irradiance;
 mod levels;
 mod nearest;
 mod ranges;
@@ -166,7 +167,7 @@ fn mixed(texels: &[u32]) -> u64 {
 type Part = (&'static str, fn(&mut Run));
 
 /// The parts, in 01's order and then in 02's.
-const PARTS: [Part; 14] = [
+const PARTS: [Part; 15] = [
     ("refusals", refusals::run),
     ("sizes", sizes::run),
     ("chains", chains::run),
@@ -181,6 +182,7 @@ const PARTS: [Part; 14] = [
     ("cubemaps", cubemaps::run),
     ("ranges", ranges::run),
     ("replacements", replacements::run),
+    ("irradiance", irradiance::run),
 ];
 
 /// Runs every part; `say` is told of each before it starts.

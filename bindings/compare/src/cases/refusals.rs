@@ -4,7 +4,7 @@ use super::spoil::{accepted, TARGET};
 use super::Run;
 
 /// The refusals that each call can give, by its number; a second 3 is that of the second buffer.
-pub const OF_CALL: [&[u32]; 15] = [
+pub const OF_CALL: [&[u32]; 16] = [
     &[1, 2, 6],
     &[1, 2, 3],
     &[10, 3, TARGET],
@@ -20,6 +20,7 @@ pub const OF_CALL: [&[u32]; 15] = [
     &[1, 2, 3, 8, 7, 5],
     &[1, 2, 3, TARGET, 8],
     &[1, 2, 3, TARGET, 8, 14],
+    &[1, 2, 3, 8],
 ];
 
 /// Each choice of refusals is tried so many times, with other spoiled arguments.

@@ -40,10 +40,11 @@ pub struct Arguments {
 /// Accepted arguments for the call of this number, with a small picture of a kind that it takes.
 pub fn accepted(random: &mut Random, call: usize, number: u64) -> Arguments {
     let kind = taken_kind(random, call);
-    // A cross has faces of one texel at least, a picture with ranges up to nine tiles.
+    // A cross has faces of one texel at least, a picture with ranges up to nine tiles; coefficients take every texel.
     let (least, most) = match call {
         2 => (4, 12),
         13 | 14 => (1, 36),
+        15 => (1, 8),
         _ => (1, 12),
     };
     let (width, height) = (random.between(least, most) as u32, random.between(least, most) as u32);
@@ -53,7 +54,7 @@ pub fn accepted(random: &mut Random, call: usize, number: u64) -> Arguments {
 /// A kind that the call takes.
 pub fn taken_kind(random: &mut Random, call: usize) -> u32 {
     match call {
-        11 | 12 => CUBEMAP,
+        11 | 12 | 15 => CUBEMAP,
         3 | 6 | 7 | 9 | 13 | 14 => random.pick(&[0, 1, 2, 4]),
         _ => random.below(5) as u32,
     }
@@ -196,7 +197,7 @@ impl Arguments {
     fn spoil_kind_or_face(&mut self, random: &mut Random, call: usize, lane: usize) {
         match call {
             3 | 6 | 7 | 9 | 13 | 14 => self.kind = CUBEMAP,
-            11 | 12 => self.kind = random.pick(&[0, 1, 2, 4]),
+            11 | 12 | 15 => self.kind = random.pick(&[0, 1, 2, 4]),
             _ if self.kind == CUBEMAP => self.faces[lane] = random.pick(&[6, 7, 255, u32::MAX]),
             _ => self.faces[lane] = random.pick(&[1, 5, 6, u32::MAX]),
         }
@@ -238,7 +239,8 @@ impl Arguments {
         let whole = match call {
             // The other levels may stand behind level 0, and nobody looks at them.
             13 | 14 if !short && self.kind != CUBEMAP && random.one_in(2) => chain,
-            3 | 13 | 14 => level_0,
+            15 if !short && random.one_in(2) => chain,
+            3 | 13 | 14 | 15 => level_0,
             _ => chain,
         };
         let length = shortened(random, whole, short);
@@ -291,7 +293,8 @@ impl Arguments {
             11 => Call::SampleCubemapRgb { picture, directions, levels },
             12 => Call::SampleCubemapTrilinearRgb { picture, directions, levels: self.fractions },
             13 => Call::BuildRanges { picture: lent, ranges: &self.ranges },
-            _ => Call::ReplaceTexel { picture: lent, ranges: &self.ranges, replacement: self.replacement },
+            14 => Call::ReplaceTexel { picture: lent, ranges: &self.ranges, replacement: self.replacement },
+            _ => Call::IrradianceSh4 { picture: lent },
         }
     }
 }

@@ -1,8 +1,7 @@
 //! The aligned cut.
 
-use super::refusals::{bad_kind, bad_sides, first, too_short};
+use super::refusals::{first, of_level_0, too_short};
 use super::rules::Rules;
-use super::sizes::level_texels;
 use super::{Answer, Lent, CUBEMAP};
 
 /// A cut: its order, its corner and its sides.
@@ -30,13 +29,8 @@ fn bad_cut(cut: &Cut, width: u32, height: u32) -> bool {
 
 /// The cut: 1, 2, 3 (source), 8 (a cubemap), 11, 3 (target). It answers the texels written.
 pub fn cut<R: Rules>(source: &Lent, cut: &Cut, target: &mut [u32]) -> Answer<u64> {
-    let level_0 = level_texels::<R>(source.kind, source.width, source.height, 0);
-    first::<R>(&[
-        (1, bad_kind(source.kind)),
-        (2, bad_sides(source.width, source.height)),
-        (3, too_short(source.texels.len(), level_0)),
-        (8, source.kind == CUBEMAP),
-    ])?;
+    let [one, two, three] = of_level_0::<R>(source);
+    first::<R>(&[one, two, three, (8, source.kind == CUBEMAP)])?;
     if bad_cut(cut, source.width, source.height) {
         return Err(11);
     }

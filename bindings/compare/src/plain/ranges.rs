@@ -1,9 +1,8 @@
 //! T-02: ranges beside level 0 of a picture that is no cubemap. Of every tile of 16 by 16 texels the smallest and the
 //! largest value of each channel.
 
-use super::refusals::{bad_kind, bad_sides, first, too_short};
+use super::refusals::{first, of_level_0, too_short};
 use super::rules::Rules;
-use super::sizes::level_texels;
 use super::texel::bytes;
 use super::{Answer, Lent, CUBEMAP};
 use std::ops::Range;
@@ -26,19 +25,14 @@ pub fn ranges_bytes(width: u32, height: u32) -> u128 {
 
 /// 1, 2, 3 (level 0 or the ranges), 8 (a cubemap).
 fn refused<R: Rules>(picture: &Lent, ranges: &[u8]) -> Answer<()> {
-    let &Lent {
-        kind,
-        width,
-        height,
-        texels,
-    } = picture;
-    let level_0 = level_texels::<R>(kind, width, height, 0);
-    let short = too_short(texels.len(), level_0) || too_short(ranges.len(), ranges_bytes(width, height));
+    let [one, two, three] = of_level_0::<R>(picture);
+    let needed = ranges_bytes(picture.width, picture.height);
     first::<R>(&[
-        (1, bad_kind(kind)),
-        (2, bad_sides(width, height)),
-        (3, short),
-        (8, kind == CUBEMAP),
+        one,
+        two,
+        three,
+        (3, too_short(ranges.len(), needed)),
+        (8, picture.kind == CUBEMAP),
     ])
 }
 

@@ -1,7 +1,7 @@
 //! Refusal numbers: which of those that hold is given.
 
 use super::rules::Rules;
-use super::sizes::chain_texels;
+use super::sizes::{chain_texels, level_texels};
 use super::{Answer, Lanes, Lent};
 
 /// Of the refusals whose condition holds, the first in 01's order is given.
@@ -34,14 +34,23 @@ pub fn too_short(length: usize, needed: u128) -> bool {
     (length as u128) < needed
 }
 
-/// 1, 2 and 3 of a call that is lent a whole chain.
-pub fn of_chain<R: Rules>(lent: &Lent) -> [(u32, bool); 3] {
-    let needed = chain_texels::<R>(lent.kind, lent.width, lent.height);
+/// 1, 2 and 3 of a call that is lent so many texels at least.
+fn of_picture(lent: &Lent, needed: u128) -> [(u32, bool); 3] {
     [
         (1, bad_kind(lent.kind)),
         (2, bad_sides(lent.width, lent.height)),
         (3, too_short(lent.texels.len(), needed)),
     ]
+}
+
+/// 1, 2 and 3 of a call that is lent a whole chain.
+pub fn of_chain<R: Rules>(lent: &Lent) -> [(u32, bool); 3] {
+    of_picture(lent, chain_texels::<R>(lent.kind, lent.width, lent.height))
+}
+
+/// 1, 2 and 3 of a call that is lent level 0.
+pub fn of_level_0<R: Rules>(lent: &Lent) -> [(u32, bool); 3] {
+    of_picture(lent, level_texels::<R>(lent.kind, lent.width, lent.height, 0))
 }
 
 /// 5: a coordinate is not finite, or its magnitude is above 2,048.

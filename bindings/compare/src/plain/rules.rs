@@ -201,6 +201,42 @@ pub trait Rules {
     fn brought_up_to_date(_before: [u8; 8], _texel: u32, own: [u8; 8]) -> [u8; 8] {
         own
     }
+
+    /// T-04: row and column order: the column and the row of a face's texel of this number.
+    fn place_in_face(number: u32, width: u32, _height: u32) -> (u32, u32) {
+        (number % width, number / width)
+    }
+
+    /// T-04: u = ((x + 0.5) / width) * 2.0 - 1.0, and v of y and the height likewise.
+    fn centre(x: u32, y: u32, width: f32, height: f32) -> (f32, f32) {
+        let along = |place: u32, side: f32| ((place as f32 + 0.5) / side) * 2.0 - 1.0;
+        (along(x, width), along(y, height))
+    }
+
+    /// T-04: d = 1 + u*u + v*v.
+    fn squared_length(u: f32, v: f32) -> f32 {
+        (1.0 + u * u) + v * v
+    }
+
+    /// T-04: the weight's divisor is d times the rounded root of d.
+    fn weight(texel_omega: f32, d: f32, root: f32) -> f32 {
+        texel_omega / (d * root)
+    }
+
+    /// T-04: a direction is divided by that root.
+    fn divided(component: f32, root: f32) -> f32 {
+        component / root
+    }
+
+    /// T-04: the basis of a direction, as the source has it.
+    fn basis([x, y, z]: [f32; 3]) -> [f32; 4] {
+        [0.282095, 0.488603 * y, 0.488603 * z, 0.488603 * x]
+    }
+
+    /// T-04: what a texel adds to a sum, as the source has it: colour * (basis * weight).
+    fn added(colour: f32, basis: f32, weight: f32) -> f32 {
+        colour * (basis * weight)
+    }
 }
 
 /// The sign that goes with a face: a component >= 0 (also -0) takes the even face.

@@ -1,4 +1,5 @@
-//! The other vectors that the source's text names. The comparison calls nothing that uses them.
+//! The other vectors that the source's text names. The comparison calls nothing that uses them; `findings` asks for the
+//! source's irradiance, which takes `Vec3A`.
 
 use crate::vec4::Vec4;
 use std::ops::{Add, AddAssign, Div, Mul, MulAssign, Sub};

@@ -1,18 +1,18 @@
-//! `findings`: what the source does to a flat SRGB card, beside document 01. It depends on the platform's `powf`.
+//! What the source does to a flat SRGB card, beside document 01.
 
-#[cfg(source)]
-fn main() {
-    use swathecold_compare::plain::{decoded, SRGB};
-    use swathecold_compare::source::texture;
-    use swraster::util::srgb_to_linear_scalar;
+use swathecold_compare::plain::{decoded, SRGB};
+use swathecold_compare::source::texture;
+use swraster::util::srgb_to_linear_scalar;
 
-    /// What byte is left of a flat card after so many reductions.
-    fn left(byte: u32, reductions: u32) -> u32 {
-        let mut card = texture(SRGB, 1 << reductions, 1, vec![byte << 24 | 255; 1 << reductions]);
-        card.generate_mipmaps();
-        card.data.last().map_or(0, |texel| texel >> 24)
-    }
+/// What byte is left of a flat card after so many reductions.
+fn left(byte: u32, reductions: u32) -> u32 {
+    let mut card = texture(SRGB, 1 << reductions, 1, vec![byte << 24 | 255; 1 << reductions]);
+    card.generate_mipmaps();
+    card.data.last().map_or(0, |texel| texel >> 24)
+}
 
+/// Prints it.
+pub fn print() {
     let bits = |byte: u32| srgb_to_linear_scalar(byte as f32 / 255.0).to_bits() as i64 - decoded(byte).to_bits() as i64;
     let off: Vec<i64> = (0..256).map(bits).filter(|places| *places != 0).collect();
     let most = off.iter().map(|places| places.abs()).max().unwrap_or(0);
@@ -34,9 +34,4 @@ fn main() {
         println!("12 reductions of a flat card of {byte} leave {}.", left(byte, 12));
     }
     println!("By document 01 all 256 bytes stay.");
-}
-
-#[cfg(not(source))]
-fn main() {
-    println!("source comparison skipped: set SWRASTER_SRC");
 }

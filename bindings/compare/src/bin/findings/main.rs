@@ -1,0 +1,22 @@
+//! `findings`: what the source does to a flat SRGB card, how far its irradiance is from document 02's, and how many texels
+//! that bears. What the source does depends on the platform's `powf`.
+
+#[cfg(source)]
+mod card;
+mod cubes;
+mod irradiance;
+
+fn main() {
+    #[cfg(source)]
+    {
+        card::print();
+        println!();
+        irradiance::from_source();
+    }
+    #[cfg(not(source))]
+    println!("source comparison skipped: set SWRASTER_SRC");
+    println!();
+    irradiance::white_cubes();
+    println!();
+    irradiance::reduced_levels();
+}
