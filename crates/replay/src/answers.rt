@@ -44,9 +44,9 @@ pub fn filled_agrees(record: &Record, refusal: u32, written: u64, sum: u32) -> b
     agrees(record, refusal, &words, sum)
 }
 
-// Whether the record has these colours: red, green and blue of four lanes.
-pub fn colours_agree(record: &Record, refusal: u32, rgb: &[f32; 12]) -> bool {
-    let words = twelve_floats(rgb);
+// Whether the record has these twelve numbers: red, green and blue of four lanes, or of four coefficients.
+pub fn floats_agree(record: &Record, refusal: u32, floats: &[f32; 12]) -> bool {
+    let words = twelve_floats(floats);
     agrees(record, refusal, &words, 0)
 }
 

@@ -1,4 +1,5 @@
 // A record's call, by its number: the buffers that it is lent, and the call itself.
+use crate::light;
 use crate::parts;
 use crate::ranges;
 use crate::samples;
@@ -19,6 +20,7 @@ fn reading_agrees(record: &Record, texels: &[u32]) -> bool {
         11 => samples::sample_cubemap_rgb_agrees(record, texels),
         12 => samples::sample_cubemap_trilinear_rgb_agrees(record, texels),
         13 => ranges::build_ranges_agrees(record, texels),
+        15 => light::irradiance_sh4_agrees(record, texels),
         _ => false,
     }
 }

@@ -1,7 +1,7 @@
 // The lookups: each asked as a record says, and its answer compared.
 use crate::answers::agrees;
 use crate::answers::alphas_agree;
-use crate::answers::colours_agree;
+use crate::answers::floats_agree;
 use crate::answers::four_words;
 use crate::words::Record;
 use crate::words::bits;
@@ -36,7 +36,7 @@ pub fn sample4_rgb_agrees(record: &Record, texels: &[u32]) -> bool {
         &steps,
         &mut rgb,
     );
-    colours_agree(record, refusal, &rgb)
+    floats_agree(record, refusal, &rgb)
 }
 
 // Call 7.
@@ -79,7 +79,7 @@ pub fn sample_bilinear_rgb_agrees(record: &Record, texels: &[u32]) -> bool {
         &faces,
         &mut rgb,
     );
-    colours_agree(record, refusal, &rgb)
+    floats_agree(record, refusal, &rgb)
 }
 
 // Call 9.
@@ -145,7 +145,7 @@ pub fn sample_cubemap_rgb_agrees(record: &Record, texels: &[u32]) -> bool {
         &levels,
         &mut rgb,
     );
-    colours_agree(record, refusal, &rgb)
+    floats_agree(record, refusal, &rgb)
 }
 
 // Call 12.
@@ -166,5 +166,5 @@ pub fn sample_cubemap_trilinear_rgb_agrees(record: &Record, texels: &[u32]) -> b
         &levels,
         &mut rgb,
     );
-    colours_agree(record, refusal, &rgb)
+    floats_agree(record, refusal, &rgb)
 }
