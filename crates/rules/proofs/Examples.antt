@@ -5,7 +5,7 @@ use mathlib.Core.Bool.{true, false}
 use mathlib.Core.List.{[], _∷_, _++_}
 use Prim.Native.Nat.{ℕ, _+_, _*_, _%_}
 use lib.IntN.{pos, negsuc}
-use lib.Ieee.{neg, add, sub, mul, div, le, lt, ofBits, ofInt, toUnsigned}
+use lib.Ieee.{binary32, neg, add, sub, mul, div, le, lt, ofBits, ofInt, toUnsigned}
 use Rattle.rules.specs.Kinds.{normal, cubemap, linear, facesOf, rgba}
 use Rattle.rules.specs.Sizes.{sideAt, halvings, log2, top, sizeAt, start, count}
 use Rattle.rules.specs.Levels.{tab, grid, texel, quad, next, level, chain, filled}
@@ -17,6 +17,10 @@ use Rattle.rules.specs.Pictures.{chainOf, filledOf}
 use Rattle.rules.specs.Wrapping.{wrapCode, modeOf, remainderOf, mirroredOf, wrapOf}
 use Rattle.rules.specs.Faces.{signOf, oddOf, spotAt, spotOf}
 use Rattle.rules.specs.Ranges.{tile, smallest, largest, rangeOf, joined, rangesOf, rangesSize, rangeStart, replaced, rangeReplaced}
+use Rattle.rules.specs.NearestValue.{units, reaches, found, rootPattern}
+use Rattle.rules.specs.Root.{sqrtOf}
+use Rattle.rules.specs.Curve.{curvePattern, curve}
+use Rattle.rules.specs.Irradiance.{omegaOf, centreOf, distanceOf, weightOf, towards, dividedBy, basisOf, placeBasis, decodedOf, gets, allGet, inTurn, withTexel, sumsOf, timesBoth, foldedOf, irradianceOf}
 use Rattle.rules.specs.Refusals.{_orElse_, kindRefusal, sidesRefusal, bufferRefusal, levelRefusal, faceRefusal, noCubemapRefusal, cutRefusal, outsideRefusal, pictureRefusal, chainRefusal, viewRefusal, cutCallRefusal, rangesRefusal, replaceRefusal}
 use Rattle.rules.specs.Answers.{answer, chainLeaves, viewAnswer, cutLeaves, rangesLeaves, replaceRangesLeaves}
 
@@ -148,6 +152,12 @@ range-shrinks : replaceRangesLeaves linear 2 17 (0xFF00FF00 ∷ tab 33 (λ i. 0x
     ≡ 1 ∷ 1 ∷ 2 ∷ 2 ∷ 3 ∷ 3 ∷ 4 ∷ 5 ∷ 0 ∷ 255 ∷ 0 ∷ 255 ∷ 0 ∷ 255 ∷ 0 ∷ 255 ∷ 0 ∷ []
 unfolding replaceRangesLeaves replaced rangeReplaced answer replaceRefusal outsideRefusal rangesRefusal pictureRefusal kindRefusal sidesRefusal bufferRefusal noCubemapRefusal _orElse_ facesOf rangesSize rangeStart rangeOf smallest largest tile cut grid tab texel
 range-shrinks = refl
+
+-- three texels of face +X of a cubemap 2 by 2: the coefficients are others where a column comes before its row
+three-lamps : let s = irradianceOf 2 2 (0xC8000000 ∷ 0xFF000000 ∷ 0x80000000 ∷ []) in
+    (s .constant .r ≡ ofBits binary32 0x3e79ea04) × (s .y .r ≡ ofBits binary32 0x3e1aef0a) × (s .z .r ≡ ofBits binary32 0xbcbc03d5) × (s .x .r ≡ ofBits binary32 0x3ecc0dda)
+unfolding irradianceOf foldedOf timesBoth sumsOf inTurn withTexel allGet gets decodedOf texel placeBasis basisOf dividedBy towards weightOf distanceOf centreOf omegaOf sqrtOf curve curvePattern rootPattern found reaches units add sub mul div neg ofBits ofInt
+three-lamps = (refl, refl, refl, refl)
 
 -- ---- slips that look right
 
