@@ -2,7 +2,10 @@
 
 use std::fs;
 use std::path::Path;
-use swathecold_compare::plain::{chain_texels, generate_mipmaps, level_sizes, top_level, Document01, Lent, CUBEMAP};
+use swathecold_compare::plain::{
+    chain_texels, decoded_table, generate_mipmaps, level_sizes, on_cube, top_level, Document01, Lent, CUBEMAP,
+};
+use swathecold_compare::random::Random;
 use swathecold_compare::unit::Unit;
 
 /// A cubemap of square faces, with its whole chain where it has one.
@@ -15,6 +18,12 @@ impl Cube {
     /// A cubemap of one colour.
     pub fn of(side: u32, texel: u32) -> Cube {
         let texels = vec![texel; 6 * (side * side) as usize];
+        Cube { side, texels }
+    }
+
+    /// A cubemap without a pattern.
+    pub fn drawn(side: u32, random: &mut Random) -> Cube {
+        let texels = (0..6 * side * side).map(|_| random.next() as u32).collect();
         Cube { side, texels }
     }
 
@@ -53,6 +62,30 @@ impl Cube {
             }
         };
         (0..=top_level(self.side, self.side)).map(level).collect()
+    }
+
+    /// The sums that its coefficients are made of, by the same rule in f64.
+    pub fn sums(&self) -> [f64; 12] {
+        let (side, table) = (self.side as f64, decoded_table());
+        let centre = |place: u32| (place as f64 + 0.5) / side * 2.0 - 1.0;
+        let mut sums = [0.0; 12];
+        for (place, texel) in self.texels.iter().enumerate() {
+            let (row, x) = (place as u32 / self.side, place as u32 % self.side);
+            let (face, u, v) = (row / self.side, centre(x), centre(row % self.side));
+            let d = 1.0 + u * u + v * v;
+            let weight = 4.0 / (side * side * d * d.sqrt());
+            let [x, y, z] = on_cube(face, u as f32, v as f32).map(|component| component as f64 / d.sqrt());
+            for (i, factor) in [0.282095, 0.488603 * y, 0.488603 * z, 0.488603 * x]
+                .into_iter()
+                .enumerate()
+            {
+                for channel in 0..3 {
+                    let byte = texel.to_be_bytes()[channel];
+                    sums[3 * i + channel] += table[byte as usize] as f64 * factor * weight;
+                }
+            }
+        }
+        sums
     }
 
     /// Its coefficients.

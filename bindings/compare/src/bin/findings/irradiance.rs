@@ -3,7 +3,6 @@
 use crate::cubes::Cube;
 use std::f64::consts::PI;
 use swathecold_compare::plain::Document01;
-#[cfg(source)]
 use swathecold_compare::random::Random;
 use swathecold_compare::reading::Reading;
 #[cfg(source)]
@@ -84,6 +83,32 @@ pub fn white_cubes() {
         let by = |unit: &dyn Unit| format!("{:.6}", first_over_pi(cube.coefficients(unit)));
         let columns: Vec<String> = asked.iter().map(|(_, unit)| by(&**unit)).collect();
         println!("| {side} | {} |", columns.join(" | "));
+    }
+}
+
+/// What f32 sums cost: of the twelve the largest difference from sums in f64, over the first coefficient of the same colour.
+pub fn rounded_sums() {
+    let mut random = Random::of(1, "sums");
+    println!(
+        "How far f32 sums are from f64 sums: the largest difference over the first coefficient of the same colour.\n"
+    );
+    println!("| side | white | without a pattern |\n|--:|--:|--:|");
+    for side in [16, 64, 128, 256, 512, 1024, 2048, 4096] {
+        let far = |cube: &Cube| {
+            let (rounded, sums) = (cube.coefficients(&READING), cube.sums());
+            let constant = |i: usize| {
+                if i < 3 {
+                    PI * 0.282095
+                } else {
+                    2.0 * PI / 3.0 * 0.488603
+                }
+            };
+            let exact: [f64; 12] = std::array::from_fn(|i| sums[i] * constant(i));
+            let off = |i: usize| (rounded[i] as f64 - exact[i]).abs() / exact[i % 3];
+            (0..12).map(off).fold(0.0, f64::max)
+        };
+        let (white, drawn) = (Cube::of(side, 0xFFFF_FFFF), Cube::drawn(side, &mut random));
+        println!("| {side} | {:.1e} | {:.1e} |", far(&white), far(&drawn));
     }
 }
 

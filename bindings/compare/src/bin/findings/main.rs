@@ -18,5 +18,7 @@ fn main() {
     println!();
     irradiance::white_cubes();
     println!();
+    irradiance::rounded_sums();
+    println!();
     irradiance::reduced_levels();
 }
