@@ -296,8 +296,8 @@ pub fn replace_texel(
 /// The light of a cubemap's level 0 as irradiance coefficients: each texel is decoded by the sRGB curve and counts by the solid
 /// angle that it fills. Only level 0 is read. Refusals: 1, 2, 3 (level 0), 8 for any kind but a cubemap.
 ///
-/// The sums are f32 numbers, and beside a large sum a texel's small share is rounded off: with sides up to 256 the light is right
-/// to about 1 in 10,000, at 1024 to 1 in 100, and of a white cube 4096 square 0.43 is left. So sum a level with sides up to 256, by
+/// The sums are f32 numbers, and beside a large sum a texel's small share is rounded off: with sides up to 256 the sums are right
+/// to 1 in 10,000, at 1024 to 1 in 100, and of a white cube 4096 square 0.43 is left. So sum a level with sides up to 256, by
 /// [`Picture::reopen`](crate::Picture::reopen), and none much smaller: a reduction takes the mean of bytes that are still encoded,
 /// which dims the rims of lamps.
 ///

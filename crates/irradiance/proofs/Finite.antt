@@ -1,6 +1,5 @@
 -- No coefficient is a nan or an infinity, for every picture that the call takes. A term is at most 2 in magnitude, and 2 ^ 26 + 2 rounds to
 -- 2 ^ 26: so the sums stay within 2 ^ 26 however many terms they get, and times the constants within 2 ^ 27. Assumes nothing.
-use mathlib.Core.Path.{_≡_}
 use mathlib.Core.List.{List}
 use mathlib.Core.Logic.{⊎-elim}
 use Prim.Native.Nat.{ℕ, _+_, _*_, _<_}

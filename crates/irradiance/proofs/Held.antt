@@ -1,8 +1,8 @@
--- A list that is filled from the front holds one number more after each store, and one that is held is what a read gives. Assumes nothing.
-use mathlib.Core.Path.{_≡_, refl, _∙_, subst}
+-- A list that is filled from the front holds one number more after each store. Assumes nothing.
+use mathlib.Core.Path.{_≡_, _∙_}
 use mathlib.Core.Logic.{_⊎_, inl, inr}
 use mathlib.Core.List.{List}
-use Prim.Native.Nat.{ℕ, suc, _+_, _≤_, _<_}
+use Prim.Native.Nat.{ℕ, _+_, _≤_, _<_}
 use native.Mathlib.Nat.{eq-or-lt-of-le}
 use native.Mathlib.Omega.{arith}
 use lib.ListN.{length, getD, set}

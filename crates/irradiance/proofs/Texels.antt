@@ -6,12 +6,11 @@ use native.Mathlib.Nat.{mul-le-mul, mul-le-mul-right}
 use native.Mathlib.Omega.{arith}
 use lib.Arith.{digits-lt}
 use lib.ListN.{getD}
-use lib.Ieee.{Float, nan}
+use lib.Ieee.{Float}
 use Rattle.rules.specs.declared.Rgb.{Rgb}
 use Rattle.rules.specs.declared.Basis.{Basis}
 use Rattle.rules.specs.declared.Sh4.{Sh4}
 use Rattle.rules.specs.Levels.{texel}
-use Rattle.rules.specs.Floats.{Between, minus1, one32}
 use Rattle.rules.specs.Irradiance.{omegaOf, centreOf, placeBasis, decodedOf, allGet, withTexel}
 use Rattle.irradiance.specs.Holding.{Holds, OnFace}
 use Rattle.irradiance.specs.Turns.{PartAt}

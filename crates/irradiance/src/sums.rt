@@ -4,7 +4,7 @@ use choice::smaller;
 use rules::Rgb;
 use rules::Sh4;
 ghost use mathlib.Core.Path.{_≡_};
-ghost use Prim.Native.Nat.{_*_, _≤_, _<_};
+ghost use Prim.Native.Nat.{_<_};
 ghost use lib.ListN.{length};
 ghost use Rattle.rules.specs.Curve.{curve};
 ghost use Rattle.rules.specs.Irradiance.{inTurn, withTexel, sumsOf};

@@ -9,7 +9,7 @@ use Rattle.rules.specs.declared.Sh4.{Sh4}
 use Rattle.rules.specs.declared.Irradiance.the-variants.{Of as OfLight, Refused as NoLight}
 use Rattle.rules.specs.Kinds.{cubemap, facesOf}
 use Rattle.rules.specs.Irradiance.{irradianceOf}
-use Rattle.rules.specs.Refusals.{_orElse_, bufferRefusal, onlyCubemapRefusal, pictureRefusal, irradianceRefusal}
+use Rattle.rules.specs.Refusals.{bufferRefusal, onlyCubemapRefusal, pictureRefusal, irradianceRefusal}
 use Rattle.rules.specs.Answers.{irradianceAnswer}
 use Rattle.rules.proofs.Refusing.{Sides, sides-of, picture-facts, answer-given, answer-refused, orElse-zero, orElse-given, orElse-none, buffer-taken, buffer-facts, buffer-refused, cube-facts}
 use Rattle.rules.proofs.Bounds.{faces-cube, faces-flat}

@@ -1,7 +1,7 @@
 -- `irradiance::part::centres` meets its contract. The invariant: the places of the first i columns are held. The measure is what is left.
 -- Assumes nothing.
 use mathlib.Core.Path.{_≡_, refl}
-use Prim.Native.Nat.{ℕ, _+_, _-_, _≤_}
+use Prim.Native.Nat.{_+_, _-_, _≤_}
 use native.Mathlib.Omega.{arith}
 use lib.ListN.{length, length-set}
 use Rattle.rules.specs.Irradiance.{centreOf}

@@ -1,12 +1,12 @@
 -- `irradiance::root::guess` is safe: what it takes is finite. Assumes nothing.
 use mathlib.Core.Path.{sym, subst}
 use lib.Dec.{T}
+use lib.Ieee.{ofBits}
 use borrow.Author.Needs.{needs}
 use Rattle.rules.specs.Floats.{one32}
 use Rattle.rules.specs.Irradiance.{three32}
 use Rattle.texel.proofs.Range.{Between-finite}
 use Rattle.texel.proofs.Patterns.{widens}
-use lib.Ieee.{ofBits}
 use Rattle.irradiance.proofs.root.guess.Statement.{statement}
 use Rattle.irradiance.proofs.root.guess.Tie as tie
 

@@ -3,11 +3,11 @@ use mathlib.Core.Path.{_≡_, sym, subst}
 use mathlib.Core.Bool.{true, not, false≢true}
 use native.Mathlib.Omega.{arith}
 use lib.Dec.{T}
-use lib.Ieee.{Float, nan, inf, fin, binary32, fits, ofBits, toBits, le, isNan}
-use Rattle.texel.proofs.Patterns.{no-nan, below-no-nan}
+use lib.Ieee.{Float, nan, inf, fin, binary32, fits, toBits, le, isNan}
 use lib.Ieee.Positive.{positive-finite}
-use Rattle.irradiance.proofs.Roots.{Pattern, pattern-in, above-zero, from-zero, number-in, root-settled}
 use borrow.Author.Needs.{needs}
+use Rattle.texel.proofs.Patterns.{no-nan, below-no-nan}
+use Rattle.irradiance.proofs.Roots.{Pattern, pattern-in, above-zero, from-zero, number-in, root-settled}
 use Rattle.irradiance.proofs.root.settled.Statement.{statement}
 use Rattle.irradiance.proofs.root.settled.Tie as tie
 
@@ -17,7 +17,7 @@ held c = subst T (sym (c .good .0 .1)) tt
 pattern : (c : tie.Start) → Pattern (toBits binary32 (c .args .d))
 pattern c = pattern-in (c .args .d) (held c) (c .pre)
 
--- what is at least a number is none that is not a number
+-- what passes a test of order is no NaN
 at-least : (x y : Float) → le x y ≡ true → T (not (isNan y))
 unfolding le isNan
 at-least nan nan e = absurd (false≢true e)

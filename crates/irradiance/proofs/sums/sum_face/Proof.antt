@@ -1,6 +1,6 @@
 -- `irradiance::sums::sum_face` meets its contract. The invariant: y rows are summed. The measure is what is left. Assumes nothing.
-use mathlib.Core.Path.{_≡_, refl, sym, ap, _∙_}
-use Prim.Native.Nat.{ℕ, _-_, _≤_}
+use mathlib.Core.Path.{_≡_}
+use Prim.Native.Nat.{_-_, _≤_}
 use native.Mathlib.Omega.{arith}
 use Rattle.rules.specs.Irradiance.{inTurn, withTexel}
 use Rattle.irradiance.proofs.Turns.{turn-first, turn-next, turn-all}

@@ -1,10 +1,9 @@
 -- `irradiance::sums::sum_row` meets its contract. The invariant: x columns are summed. The measure is what is left. Assumes nothing.
-use mathlib.Core.Path.{_≡_, ap, _∙_}
-use Prim.Native.Nat.{ℕ, _-_, _≤_, _<_, min}
+use mathlib.Core.Path.{_≡_}
+use Prim.Native.Nat.{_-_, _≤_}
 use native.Mathlib.Omega.{arith}
 use borrow.Author.Needs.{needs}
 use Rattle.rules.specs.Irradiance.{inTurn, withTexel}
-use Rattle.irradiance.specs.Turns.{inTurnFrom}
 use Rattle.irradiance.proofs.Turns.{turn-first, turn-part, turn-all}
 use Rattle.irradiance.proofs.sums.sum_row.Statement.{statement}
 use Rattle.irradiance.proofs.sums.sum_row.Tie as tie
