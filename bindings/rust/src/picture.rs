@@ -77,7 +77,23 @@ impl Picture {
         Ranges::of(self)
     }
 
-    /// The light of level 0. See [`crate::irradiance_sh4`] for sides above 256. Refusal: 8 for any kind but a cubemap.
+    /// The light of level 0 as four colours: the constant, then what y, z and x add. With sides above 256, reopen a reduced level
+    /// and ask that: [`crate::irradiance_sh4`] says why. Refusal: 8 for any kind but a cubemap.
+    ///
+    /// ```
+    /// use std::f32::consts::PI;
+    /// use swathecold::{Picture, TextureType};
+    /// // a dim room, whose ceiling, face 2, is a lamp
+    /// let mut faces = [0x202020FF; 6 * 16];
+    /// faces[2 * 16..3 * 16].fill(0xFFFFFFFF);
+    /// let light = Picture::new(TextureType::Cubemap, 4, 4, &faces)?.irradiance_sh4()?;
+    ///
+    /// // a grey ball of albedo 0.5: its top, its side, its bottom
+    /// let grey = |normal| 0.5 / PI * light.on(normal)[0];
+    /// let [top, side, bottom] = [[0.0, 1.0, 0.0], [1.0, 0.0, 0.0], [0.0, -1.0, 0.0]].map(grey);
+    /// assert!(top > side && side > bottom);
+    /// # Ok::<(), swathecold::Refusal>(())
+    /// ```
     pub fn irradiance_sh4(&self) -> Result<IrradianceSh4, Refusal> {
         calls::irradiance_sh4(self.texture_type, self.width, self.height, &self.texels)
     }
