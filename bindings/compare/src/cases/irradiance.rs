@@ -56,11 +56,12 @@ fn six_faces(width: u32, height: u32) -> usize {
     6 * width as usize * height as usize
 }
 
-/// Pairs of small sides, squares of up to 64 texels and beside them, and the longest.
+/// Pairs of small sides, squares of up to 64 texels and beside them, rows about one and two times that long, and the longest.
 fn sides() -> Vec<(u32, u32)> {
     let small = [1, 2, 3, 4, 5, 7, 8, 15, 16, 17];
     let mut sides: Vec<(u32, u32)> = small.iter().flat_map(|w| small.map(|h| (*w, h))).collect();
     sides.extend([(31, 31), (32, 32), (33, 33), (64, 64), (63, 64), (64, 9)]);
+    sides.extend([(65, 2), (127, 3), (128, 3), (129, 2)]);
     sides.extend([(4096, 1), (1, 4096), (4095, 1), (1, 4095), (4096, 2), (3, 4095)]);
     sides
 }
