@@ -70,7 +70,7 @@ basisOf n weight =
       x = mul binary32 (mul binary32 basis1 (n .x)) weight;
     }
 
--- at the place (u, v) of face f
+-- the basis at the place (u, v) of face f
 unfoldable pub placeBasis : Float → ℕ → Float → Float → Basis
 placeBasis omega f u v =
     let d = distanceOf u v in
@@ -89,6 +89,7 @@ gets s c k =
       b = add binary32 (s .b) (mul binary32 (c .b) k);
     }
 
+-- all four, each by its basis
 unfoldable pub allGet : Rgb → Basis → Sh4 → Sh4
 allGet c k s =
     record {
@@ -103,10 +104,11 @@ unfoldable pub inTurn : {A : Type 0} → ℕ → (ℕ → A → A) → A → A
 inTurn zero step s = s
 inTurn (suc n) step s = step n (inTurn n step s)
 
--- with the texel (x, y) of face f
+-- the sums with the texel (x, y) of face f
 unfoldable pub withTexel : ℕ → ℕ → List ℕ → ℕ → ℕ → ℕ → Sh4 → Sh4
 withTexel w h l f y x = allGet (decodedOf (texel w h l f x y)) (placeBasis (omegaOf w h) f (centreOf w x) (centreOf h y))
 
+-- nothing yet: +0
 abbrev pub black : Rgb
 black = record { r = zero32; g = zero32; b = zero32 }
 
@@ -140,5 +142,6 @@ foldedOf s =
       x = timesBoth twoThirds basis1 (s .x);
     }
 
+-- of the picture whose level 0 is l
 unfoldable pub irradianceOf : ℕ → ℕ → List ℕ → Sh4
 irradianceOf w h l = foldedOf (sumsOf w h l)
