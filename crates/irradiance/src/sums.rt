@@ -8,8 +8,8 @@ ghost use Prim.Native.Nat.{_<_};
 ghost use lib.ListN.{length};
 ghost use Rattle.rules.specs.Curve.{curve};
 ghost use Rattle.rules.specs.Irradiance.{inTurn, withTexel, sumsOf};
-ghost use Rattle.irradiance.specs.Holding.{Holds};
 ghost use Rattle.rules.proofs.RefusingIrradiance.{Cubed};
+ghost use Rattle.irradiance.specs.Holding.{Holds};
 
 // The sums with row y of a face.
 fn sum_row(
