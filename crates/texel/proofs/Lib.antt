@@ -14,6 +14,8 @@ pub mod Evens
 pub mod Floors
 pub mod Fraction
 pub mod Coord
+pub mod RootFloats
+pub mod Corrections
 pub mod RootDigits
 pub mod RootRule
 pub mod Every
