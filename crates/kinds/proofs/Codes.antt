@@ -1,6 +1,7 @@
 -- The reduction that each kind code stands for. Assumes nothing.
 use mathlib.Core.Path.{_≡_}
-use Prim.Native.Nat.{ℕ}
+use Prim.Native.Nat.{ℕ, _<_}
+use native.Mathlib.Omega.{arith}
 use borrow.Author.Tests.{ne-eqb}
 use Rattle.rules.specs.Reducing.{srgbOf, normalOf, metallicOf, linearOf, reduceOf}
 
@@ -16,6 +17,9 @@ pub of-metallic : (kind : ℕ) → kind ≡ 2 → reduceOf kind ≡ metallicOf
 unfolding reduceOf
 of-metallic kind e = rw e
 
-pub of-linear : (kind : ℕ) → (kind ≡ 0 → ⊥) → (kind ≡ 1 → ⊥) → (kind ≡ 2 → ⊥) → reduceOf kind ≡ linearOf
+pub of-linear : (kind : ℕ) → 0 < kind → (kind ≡ 1 → ⊥) → (kind ≡ 2 → ⊥) → reduceOf kind ≡ linearOf
 unfolding reduceOf
-of-linear kind a b c = rw (ne-eqb kind 0 a, ne-eqb kind 1 b, ne-eqb kind 2 c)
+of-linear kind a b c = rw (ne-eqb kind 0 (λ e. none kind a e), ne-eqb kind 1 b, ne-eqb kind 2 c)
+  where
+    none : (kind : ℕ) → 0 < kind → kind ≡ 0 → ⊥
+    none kind a e = omega arith

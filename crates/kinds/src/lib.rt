@@ -1,7 +1,7 @@
 // By kind: one texel of four, and a row of them from the two rows above.
 use channel::Quad;
 ghost use mathlib.Core.Path.{_≡_};
-ghost use Prim.Native.Nat.{_*_, _≤_};
+ghost use Prim.Native.Nat.{_*_, _<_, _≤_};
 ghost use lib.ListN.{length};
 ghost use Rattle.rules.specs.Reducing.{reduceOf};
 ghost use Rattle.kinds.specs.Runs.{over, pairOf};
@@ -12,14 +12,14 @@ pub mod metallic;
 pub mod normal;
 pub mod srgb;
 
-// The texel that takes the place of p00, p10, p01, p11: 0 SRGB, 1 Normal, 2 MetallicRoughness; 3 Cubemap and 4 Linear are the
-// plain mean, and so is a code above 4, which every public call refuses.
-pub fn reduce(kind: u32, p00: u32, p10: u32, p01: u32, p11: u32) -> u32
+// The texel that takes the place of p00, p10, p01, p11, by a kind that needs no table: 1 Normal, 2 MetallicRoughness; 3 Cubemap and
+// 4 Linear are the plain mean, and so is a code above 4, which every public call refuses. For 0, SRGB, there is `srgb::row`.
+pub fn reduce_without_table(kind: u32, p00: u32, p10: u32, p01: u32, p11: u32) -> u32
+    requires { ⌜ 0 < kind ⌝ }
     ensures { λ r. ⌜ r ≡ reduceOf kind p00 p10 p01 p11 ⌝ }
 {
     let q = Quad { p00, p10, p01, p11 };
     match kind {
-        0 => srgb::reduced(q),
         1 => normal::reduced(q),
         2 => metallic::reduced(q),
         _ => linear::reduced(q),
@@ -27,12 +27,12 @@ pub fn reduce(kind: u32, p00: u32, p10: u32, p01: u32, p11: u32) -> u32
 }
 
 // n texels of a row, from pairs of the two rows above, by the same codes.
-pub fn row(kind: u32, n: usize, a: &[u32], b: &[u32], o: &mut [u32])
+pub fn row_without_table(kind: u32, n: usize, a: &[u32], b: &[u32], o: &mut [u32])
+    requires { ⌜ 0 < kind ⌝ }
     requires { ⌜ (n ≤ length (now o)) × (2 * n ≤ length (now a)) × (2 * n ≤ length (now b)) ⌝ }
     ensures { λ _. ⌜ now (o .exit) ≡ over 0 (now (o .entry)) n (pairOf (reduceOf kind) (now (a .entry)) (now (b .entry))) ⌝ }
 {
     match kind {
-        0 => srgb::row(n, a, b, o),
         1 => normal::row(n, a, b, o),
         2 => metallic::row(n, a, b, o),
         _ => linear::row(n, a, b, o),

@@ -47,15 +47,6 @@ fn by_tables(t: &[f32; 256], index: &[u8; 1506], q: Quad) -> u32
     )
 }
 
-// One texel.
-pub fn reduced(q: Quad) -> u32
-    ensures { λ v. ⌜ v ≡ srgbOf (q .p00) (q .p10) (q .p01) (q .p11) ⌝ }
-{
-    let t = curve_table();
-    let index = index_table();
-    by_tables(&t, &index, q)
-}
-
 // n texels of a row, from pairs of the two rows above; the row holds the tables.
 pub fn row(n: usize, a: &[u32], b: &[u32], o: &mut [u32])
     requires { ⌜ (n ≤ length (now o)) × (2 * n ≤ length (now a)) × (2 * n ≤ length (now b)) ⌝ }

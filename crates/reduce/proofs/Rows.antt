@@ -2,10 +2,11 @@
 -- it lie behind the sources, so it reads what was there at first. Where the sources are two wide and more no second place is held
 -- to the row, and where they are one wide both places are the one texel. For any way to make one texel of four. Assumes nothing.
 use mathlib.Core.Path.{_≡_, refl, sym, _∙_}
-use mathlib.Core.List.{List}
+use mathlib.Core.List.{List, [], _∷_}
 use Prim.Native.Nat.{ℕ, _+_, _-_, _*_, _/_, _≤_, _<_, min}
 use native.Mathlib.Nat.{add-zero}
 use native.Mathlib.Omega.{arith}
+use lib.Dec.{lit<, lit≤}
 use lib.ListN.{length, getD, take, drop, set, List·getD-append}
 use lib.Seq.{getD-drop}
 use borrow.Rule.Slice.PartAt.{part-to-end}
@@ -14,7 +15,7 @@ use Rattle.rules.specs.Levels.{tab}
 use Rattle.rules.proofs.Grid.{length-tab, getD-tab}
 use Rattle.kinds.specs.Runs.{over, pairOf}
 use Rattle.reduce.specs.Rows.{heldOf}
-use Rattle.kinds.proofs.Runs.{Over, over-same, over-more, over-one, over-ext}
+use Rattle.kinds.proofs.Runs.{Over, over-same, over-more, over-one, over-ext, over-within}
 
 -- the run at the front of a list
 pub front-at : (old : List ℕ) (n : ℕ) (f : ℕ → ℕ) (k : ℕ) → k < n → getD (over 0 old n f) k 0 ≡ f k
@@ -41,19 +42,33 @@ module _ (reduce : ℕ → ℕ → ℕ → ℕ → ℕ) where
         g (r1 + 2 * x) r1 (2 * k + 1) (2 * (x + k) + 1) (omega arith) (omega arith),
       )
 
-  -- a turn of the loop over a row: m texels through the part o
-  pub row-turn : (to r0 r1 n x m : ℕ) (old s buf o t : List ℕ)
+  -- m texels made in the part o, and put behind
+  pub part-is : (to r0 r1 m : ℕ) (s buf o t : List ℕ)
+      → o ≡ over 0 buf m (pairOf reduce (take (length s - r0) (drop r0 s)) (take (length s - r1) (drop r1 s)))
+      → t ≡ over to s m (λ k. getD o k 0)
+      → t ≡ over to s m (pairOf reduce (drop r0 s) (drop r1 s))
+  part-is to r0 r1 m s buf o t eo et =
+      et
+      ∙ over-ext to s m (λ k. getD o k 0) (pairOf reduce (drop r0 s) (drop r1 s))
+      (λ k lt. rw (eo, part-to-end s r0, part-to-end s r1) (front-at buf m (pairOf reduce (drop r0 s) (drop r1 s)) k lt))
+
+  -- a turn of the loop over a row: a part of m texels
+  pub row-turn : (to r0 r1 n x m : ℕ) (old s t : List ℕ)
       → Over to old x (pairOf reduce (drop r0 old) (drop r1 old)) s
       → r0 + 2 * n ≤ to → r1 + 2 * n ≤ to → to + n ≤ length old → x + m ≤ n
-      → o ≡ over 0 buf m (pairOf reduce (take (length s - (r0 + 2 * x)) (drop (r0 + 2 * x) s)) (take (length s - (r1 + 2 * x)) (drop (r1 + 2 * x) s)))
-      → t ≡ over (to + x) s m (λ k. getD o k 0)
+      → t ≡ over (to + x) s m (pairOf reduce (drop (r0 + 2 * x) s) (drop (r1 + 2 * x) s))
       → Over to old (x + m) (pairOf reduce (drop r0 old) (drop r1 old)) t
-  row-turn to r0 r1 n x m old s buf o t h p0 p1 room le eo et =
-      over-more h (to + x) m (λ k. getD o k 0) t refl et (omega arith)
-      (λ k lt.
-      rw (eo, part-to-end s (r0 + 2 * x), part-to-end s (r1 + 2 * x))
-      (front-at buf m (pairOf reduce (drop (r0 + 2 * x) s) (drop (r1 + 2 * x) s)) k lt
-      ∙ pair-shift to r0 r1 x k s old (over-same h) (omega arith) (omega arith)))
+  row-turn to r0 r1 n x m old s t h p0 p1 room le et =
+      over-more h (to + x) m (pairOf reduce (drop (r0 + 2 * x) s) (drop (r1 + 2 * x) s)) t refl et (omega arith)
+      (λ k lt. pair-shift to r0 r1 x k s old (over-same h) (omega arith) (omega arith))
+
+  -- the texel of two rows with two columns each, p p and q q, that stand before it
+  pub two-columns : (p q m : ℕ) (t : List ℕ) → m ≡ 1 → t ≡ over 4 (p ∷ p ∷ q ∷ q ∷ 0 ∷ []) m (pairOf reduce (drop 0 (p ∷ p ∷ q ∷ q ∷ 0 ∷ [])) (drop 2 (p ∷ p ∷ q ∷ q ∷ 0 ∷ [])))
+      → getD t 4 0 ≡ reduce p p q q
+  unfolding pairOf
+  two-columns p q m t em et =
+      rw (et, em)
+      (over-within 4 (p ∷ p ∷ q ∷ q ∷ 0 ∷ []) 1 (pairOf reduce (drop 0 (p ∷ p ∷ q ∷ q ∷ 0 ∷ [])) (drop 2 (p ∷ p ∷ q ∷ q ∷ 0 ∷ []))) 0 (lit≤ tt) (lit< tt))
 
   -- a row one wide: both places of a pair are its one texel
   pub narrow-is : (to r0 r1 v : ℕ) (s : List ℕ) → to < length s → v ≡ reduce (getD s r0 0) (getD s r0 0) (getD s r1 0) (getD s r1 0)

@@ -4,7 +4,7 @@ use mathlib.Core.Path.{_≡_, sym, ap, _∙_}
 use mathlib.Core.List.{List, _++_, append-nil}
 use Prim.Native.Nat.{ℕ, zero, suc, _+_, _-_, _*_, _≤_, _<_}
 use native.Mathlib.Omega.{arith}
-use lib.ListN.{length, take, drop, length-append, length-drop}
+use lib.ListN.{length, take, drop, length-append, length-drop, take-append-drop}
 use lib.Seq.{length-take-le, take-at, drop-at, drop-length}
 use borrow.Rule.Slice.PartAt.{part-to-end}
 use borrow.Rule.Slice.PartMut.{putMid, post-is}
@@ -56,6 +56,19 @@ module _ (reduce : ℕ → ℕ → ℕ → ℕ → ℕ) (faces w h left : ℕ) (
       rw (take-at l rest (faces * h * w) long, drop-at l rest (faces * h * w) long)
       (ap (λ (k : ℕ). l ++ filled reduce faces k (half w) (half h) rest) e
       ∙ sym (filled-step reduce faces n w h old (s .some-w) (s .some-h)) ∙ ap (λ (k : ℕ). filled reduce faces k w h old) (sym e′))
+
+  -- where no level follows it, the level written is the last
+  pub step-last : (xs : List ℕ) → xs ≡ written reduce faces w h old → left ≤ 2 → xs ≡ filled reduce faces left w h old
+  step-last xs e last =
+      let k : left - 1 ≡ 1 = omega arith in
+      let n = faces * h * w in
+      let ys = written reduce faces w h old in
+      e
+      ∙ sym (take-append-drop n ys)
+      ∙ ap (λ (r : List ℕ). take n ys ++ r)
+      (sym (filled-one reduce faces (half w) (half h) (drop n ys) (omega arith) (omega arith))
+      ∙ ap (λ (l : ℕ). filled reduce faces l (half w) (half h) (drop n ys)) (sym k))
+      ∙ step-done
 
 pub step-none : (reduce : ℕ → ℕ → ℕ → ℕ → ℕ) {faces w h left : ℕ} {old : List ℕ} → Sides faces w h → 1 ≤ left → left ≤ 1 → old ≡ filled reduce faces left w h old
 step-none reduce {faces} {w} {h} {left} {old} s p q =

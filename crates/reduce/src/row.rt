@@ -3,7 +3,7 @@ ghost use mathlib.Core.Path.{_≡_};
 ghost use Prim.Native.Nat.{_+_, _*_, _<_, _≤_, min};
 ghost use lib.ListN.{length, getD, drop};
 ghost use Rattle.rules.specs.Sizes.{half};
-ghost use Rattle.rules.specs.Reducing.{reduceOf};
+ghost use Rattle.rules.specs.Reducing.{srgbOf, reduceOf};
 ghost use Rattle.kinds.specs.Runs.{over, pairOf};
 ghost use Rattle.reduce.specs.Rows.{heldOf};
 
@@ -26,21 +26,59 @@ pub fn put(n: usize, to: usize, o: &[u32], s: &mut [u32])
     }
 }
 
-// A row of n texels whose sources, at r0 and r1, have a pair for each; through a part of 256 texels.
+// The first of n texels of a row, 64 at most, and how many: made in a part from the pairs at r0 and r1, then put at `to`. For a kind
+// that needs no table.
+fn part(kind: u32, n: usize, r0: usize, r1: usize, to: usize, s: &mut [u32]) -> usize
+    requires { ⌜ 0 < kind ⌝ }
+    requires { ⌜ (r0 + 2 * n ≤ to) × (r1 + 2 * n ≤ to) × (to + n ≤ length (now s)) ⌝ }
+    ensures count { λ m. ⌜ m ≡ min n 64 ⌝ }
+    ensures { λ m. ⌜ now (s .exit) ≡ over to (now (s .entry)) m (pairOf (reduceOf kind) (drop r0 (now (s .entry))) (drop r1 (now (s .entry)))) ⌝ }
+{
+    let mut o = [0u32; 64];
+    let m = least(n, 64);
+    kinds::row_without_table(kind, m, &s[r0..], &s[r1..], &mut o);
+    put(m, to, &o, s);
+    m
+}
+
+// The same for SRGB, 128 at most. Its tables stand in this function's frame, which no other kind enters: called from two places, it
+// is not compiled into its callers.
+fn srgb_part(n: usize, r0: usize, r1: usize, to: usize, s: &mut [u32]) -> usize
+    requires { ⌜ (r0 + 2 * n ≤ to) × (r1 + 2 * n ≤ to) × (to + n ≤ length (now s)) ⌝ }
+    ensures count { λ m. ⌜ m ≡ min n 128 ⌝ }
+    ensures { λ m. ⌜ now (s .exit) ≡ over to (now (s .entry)) m (pairOf srgbOf (drop r0 (now (s .entry))) (drop r1 (now (s .entry)))) ⌝ }
+{
+    let mut o = [0u32; 128];
+    let m = least(n, 128);
+    kinds::srgb::row(m, &s[r0..], &s[r1..], &mut o);
+    put(m, to, &o, s);
+    m
+}
+
+// A row of n texels whose sources, at r0 and r1, have a pair for each, part after part.
 fn whole(kind: u32, n: usize, r0: usize, r1: usize, to: usize, s: &mut [u32])
     requires { ⌜ (r0 + 2 * n ≤ to) × (r1 + 2 * n ≤ to) × (to + n ≤ length (now s)) ⌝ }
     ensures { λ _. ⌜ now (s .exit) ≡ over to (now (s .entry)) n (pairOf (reduceOf kind) (drop r0 (now (s .entry))) (drop r1 (now (s .entry)))) ⌝ }
 {
-    let mut o = [0u32; 256];
     let mut x = 0;
     while x < n {
-        let m = least(n - x, 256);
         let a = r0 + 2 * x;
         let b = r1 + 2 * x;
-        kinds::row(kind, m, &s[a..], &s[b..], &mut o);
-        put(m, to + x, &o, s);
+        let m = match kind {
+            0 => srgb_part(n - x, a, b, to + x, s),
+            _ => part(kind, n - x, a, b, to + x, s),
+        };
         x += m;
     }
+}
+
+// The texel of two rows of two, p p and q q, by SRGB.
+fn srgb_texel(p: u32, q: u32) -> u32
+    ensures { λ v. ⌜ v ≡ srgbOf p p q q ⌝ }
+{
+    let mut rows = [p, p, q, q, 0];
+    let _ = srgb_part(1, 0, 2, 4, &mut rows);
+    rows[4]
 }
 
 // The one texel of a row whose sources are one wide.
@@ -50,7 +88,11 @@ fn narrow(kind: u32, r0: usize, r1: usize, to: usize, s: &mut [u32])
 {
     let p = s[r0];
     let q = s[r1];
-    s[to] = kinds::reduce(kind, p, p, q, q);
+    let v = match kind {
+        0 => srgb_texel(p, q),
+        _ => kinds::reduce_without_table(kind, p, p, q, q),
+    };
+    s[to] = v;
 }
 
 // The row at `to`, from the rows w wide at r0 and r1.

@@ -3,7 +3,7 @@ use borrow.Author.Needs.{needs}
 use native.Mathlib.Omega.{arith}
 use Rattle.rules.specs.Reducing.{reduceOf}
 use Rattle.reduce.proofs.Bounds.{texels}
-use Rattle.reduce.proofs.Steps.{Written, sides-half, step-room, step-none, at-fits, rest-fits, put-back}
+use Rattle.reduce.proofs.Steps.{Written, sides-half, step-room, step-last, step-none, at-fits, rest-fits, put-back}
 use Prim.Native.Nat.{ℕ, _<_}
 use borrow.Fn.Kinds.{In}
 use borrow.Fn.PlainCycle.{Measures, is, falls, and}
@@ -40,7 +40,7 @@ module _ (t : ℕ) where
       let start = then .before .before in
       record {
         sides = start .pre .1 .0;
-        more = then .if1 .taken;
+        more = let more = then .if1 .taken in omega arith;
         room = start .pre .1 .1 .1;
         at = c .before .before .size .ensures;
         holds = c .before .before .before .before .before .write-next .ensures;
@@ -49,7 +49,8 @@ module _ (t : ℕ) where
   write-next-requires : lts.Need-write-next-requires (known t) (at t) fill.Post
   write-next-requires c κs =
       let start = c .before .before .before in
-      (start .pre .1 .0, step-room (reduceOf (start .args .kind)) _ _ _ _ (start .args .s .now) (start .pre .1 .0) (c .before .if1 .taken) (start .pre .1 .1 .1))
+      let more = c .before .if1 .taken in
+      (start .pre .1 .0, step-room (reduceOf (start .args .kind)) _ _ _ _ (start .args .s .now) (start .pre .1 .0) (omega arith) (start .pre .1 .1 .1))
 
   size-requires : lts.Need-size-requires (known t) (at t) fill.Post
   size-requires c κs = search needs
@@ -90,10 +91,26 @@ module _ (t : ℕ) where
       let d = c .before .before .before .before in
       put-back (wrote d) (d .before .halved .ensures) (d .halved2 .ensures) (c .before .before .fill .ensures)
 
+  write-next-requires-2 : lts.Need-write-next-requires-2 (known t) (at t) fill.Post
+  write-next-requires-2 c κs =
+      let start = c .before .before .before .before in
+      (start .pre .1 .0, step-room (reduceOf (start .args .kind)) _ _ _ _ (start .args .s .now) (start .pre .1 .0) (c .before .if2 .taken) (start .pre .1 .1 .1))
+
+  same-length-2 : lts.Need-same-length-2 (known t) (at t) fill.Post
+  same-length-2 c = search needs
+
   returns-2 : lts.Need-returns-2 (known t) (at t) fill.Post
   returns-2 c =
-      let start = c .before .before in
-      step-none (reduceOf (start .args .kind)) (start .pre .1 .0) (start .pre .1 .1 .0) (c .if1 .left)
+      let call = c .before .before in
+      let then = call .before .before in
+      let start = then .before .before .before in
+      step-last (reduceOf (start .args .kind)) _ _ _ _ (start .args .s .now) (start .pre .1 .0) (then .if2 .taken) (start .pre .1 .1 .1) _ (call .write-next2 .ensures)
+      (then .before .if1 .left)
+
+  returns-3 : lts.Need-returns-3 (known t) (at t) fill.Post
+  returns-3 c =
+      let start = c .before .before .before in
+      step-none (reduceOf (start .args .kind)) (start .pre .1 .0) (start .pre .1 .1 .0) (c .if2 .left)
 
 pub +fill-spec : {M : Type 1} → statement M
 +fill-spec =
@@ -111,4 +128,7 @@ pub +fill-spec : {M : Type 1} → statement M
     (fill-requires t)
     (same-length t)
     (returns t)
-    (returns-2 t))
+    (write-next-requires-2 t)
+    (same-length-2 t)
+    (returns-2 t)
+    (returns-3 t))

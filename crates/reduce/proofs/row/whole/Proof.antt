@@ -1,29 +1,26 @@
 -- `reduce::row::whole` meets its contract. The invariant: x texels of the row stand from `to` on. The measure is what is left. Assumes nothing.
-use mathlib.Core.Path.{_≡_, refl, _∙_}
-use Prim.Native.Nat.{_≤_, _-_}
+use mathlib.Core.Path.{_∙_}
+use mathlib.Core.Logic.{⊎-elim}
+use Prim.Native.Nat.{_+_, _-_, _≤_}
+use native.Mathlib.Nat.{pos-of-ne-zero}
 use native.Mathlib.Omega.{arith}
-use lib.ListN.{length, drop}
+use lib.ListN.{drop}
 use Rattle.kinds.specs.Runs.{pairOf}
 use Rattle.rules.specs.Reducing.{reduceOf}
 use Rattle.kinds.proofs.Runs.{Over, over-first, over-end}
+use Rattle.kinds.proofs.Codes.{of-srgb}
 use Rattle.reduce.proofs.Rows.{row-turn}
 use Rattle.reduce.proofs.row.whole.Statement.{statement}
 use Rattle.reduce.proofs.row.whole.Tie as tie
 
 abbrev Inv-loop : tie.InvT-loop
-Inv-loop kind n r0 r1 to s₀ o₀ x₀ s o x = (x ≤ n) × (length o ≡ 256) × Over to s₀ x (pairOf (reduceOf kind) (drop r0 s₀) (drop r1 s₀)) s
+Inv-loop kind n r0 r1 to s₀ x₀ s x = (x ≤ n) × Over to s₀ x (pairOf (reduceOf kind) (drop r0 s₀) (drop r1 s₀)) s
 
 abbrev μ-loop : tie.MeasureT-loop
-μ-loop kind n r0 r1 to s₀ o₀ x₀ s o x = n - x
+μ-loop kind n r0 r1 to s₀ x₀ s x = n - x
 
 loop-holds : tie.Need-loop-holds Inv-loop μ-loop
-loop-holds c = (omega arith, refl, over-first _ _ _ (omega arith))
-
-sub-least : tie.Need-sub-least Inv-loop μ-loop
-sub-least c = omega arith
-
-least-requires : tie.Need-least-requires Inv-loop μ-loop
-least-requires c κs = tt
+loop-holds c = (omega arith, over-first _ _ _ (omega arith))
 
 mul-a : tie.Need-mul-a Inv-loop μ-loop
 mul-a c = omega arith
@@ -37,68 +34,58 @@ mul-b c = omega arith
 add-b : tie.Need-add-b Inv-loop μ-loop
 add-b c = omega arith
 
-mul-row : tie.Need-mul-row Inv-loop μ-loop
-mul-row c = omega arith
+sub-srgb-part : tie.Need-sub-srgb-part Inv-loop μ-loop
+sub-srgb-part c = omega arith
 
-sub-row : tie.Need-sub-row Inv-loop μ-loop
-sub-row c = omega arith
+add-srgb-part : tie.Need-add-srgb-part Inv-loop μ-loop
+add-srgb-part c = omega arith
 
-part-row-start : tie.Need-part-row-start Inv-loop μ-loop
-part-row-start c = omega arith
+srgb-part-requires : tie.Need-srgb-part-requires Inv-loop μ-loop
+srgb-part-requires c κs = omega arith
 
-part-row-end : tie.Need-part-row-end Inv-loop μ-loop
-part-row-end c = omega arith
+sub-part : tie.Need-sub-part Inv-loop μ-loop
+sub-part c = omega arith
 
-mul-row-2 : tie.Need-mul-row-2 Inv-loop μ-loop
-mul-row-2 c = omega arith
+add-part : tie.Need-add-part Inv-loop μ-loop
+add-part c = omega arith
 
-sub-row-2 : tie.Need-sub-row-2 Inv-loop μ-loop
-sub-row-2 c = omega arith
+part-requires : tie.Need-part-requires Inv-loop μ-loop
+part-requires c κs = (pos-of-ne-zero (c .before .match .rest .1), omega arith)
 
-part-row-start-2 : tie.Need-part-row-start-2 Inv-loop μ-loop
-part-row-start-2 c = omega arith
-
-part-row-end-2 : tie.Need-part-row-end-2 Inv-loop μ-loop
-part-row-end-2 c = omega arith
-
-slice-aggregate-row : tie.Need-slice-aggregate-row Inv-loop μ-loop
-slice-aggregate-row c = omega arith
-
-row-requires : tie.Need-row-requires Inv-loop μ-loop
-row-requires c κs = omega arith
-
-add-put : tie.Need-add-put Inv-loop μ-loop
-add-put c = omega arith
-
-slice-aggregate-put : tie.Need-slice-aggregate-put Inv-loop μ-loop
-slice-aggregate-put c = omega arith
-
-put-requires : tie.Need-put-requires Inv-loop μ-loop
-put-requires c κs = omega arith
+-- what a turn made, by either arm
+made : (c : tie.At-match-came Inv-loop μ-loop)
+    → let loop = c .before .before in
+    let a = loop .before .before .args in
+    (1 ≤ c .match .m) × (loop .loop .x + c .match .m ≤ a .n) × Over (a .to) (a .s .now) (loop .loop .x + c .match .m) (pairOf (reduceOf (a .kind)) (drop (a .r0) (a .s .now)) (drop (a .r1) (a .s .now))) (c .match .s)
+made c =
+    let loop = c .before .before in
+    let a = loop .before .before .args in
+    let turn = row-turn (reduceOf (a .kind)) (a .to) (a .r0) (a .r1) (a .n) (loop .loop .x) (c .match .m) (a .s .now) (loop .loop .s) (c .match .s) (loop .loop .inv .1) (omega arith) (omega arith) (omega arith) in
+    ⊎-elim
+    (λ w.
+    let e = w .6 in
+    let m = w .2 .ensures .0 in
+    (omega arith, omega arith, turn (omega arith) (w .5 ∙ rw (e, of-srgb (a .kind) (w .0 .keys1)) (w .2 .ensures .1))))
+    (λ w.
+    let e = w .6 in
+    let m = w .2 .ensures .0 in
+    (omega arith, omega arith, turn (omega arith) (w .5 ∙ rw e (w .2 .ensures .1))))
+    (c .match .came)
 
 add-x : tie.Need-add-x Inv-loop μ-loop
-add-x c = omega arith
+add-x c = let m = made (c .before) in omega arith
 
 loop-less : tie.Need-loop-less Inv-loop μ-loop
-loop-less c = omega arith
+loop-less c = let m = made (c .before) in omega arith
 
 loop-again : tie.Need-loop-again Inv-loop μ-loop
-loop-again c =
-    let loop = c .before .before .before .before .before .before .before .before .before .before .before .before .before in
-    let start = loop .before .before in
-    let a = start .args in
-    let turn = c .before .before .before .before .before .before in (
-      omega arith,
-      turn .row .kept .1 .1 .1 .1 .0 ∙ loop .loop .inv .1,
-      row-turn (reduceOf (a .kind)) (a .to) (a .r0) (a .r1) (a .n) (loop .loop .x) (c .before .before .before .before .before .before .before .before .before .before .before .least .result) (a .s .now) (loop .loop .s) _ _ _ (loop .loop .inv .2)
-          (omega arith) (omega arith) (omega arith) (omega arith) (turn .row .ensures) (c .before .before .put .ensures),
-    )
+loop-again c = let m = made (c .before) in (omega arith, m .2)
 
 same-length : tie.Need-same-length Inv-loop μ-loop
-same-length c = c .before .loop .inv .2 .as-long
+same-length c = c .before .loop .inv .1 .as-long
 
 returns : tie.Need-returns Inv-loop μ-loop
-returns c = over-end (c .before .loop .inv .2) _ (omega arith)
+returns c = over-end (c .before .loop .inv .1) _ (omega arith)
 
 pub whole-spec : {M : Type 1} → statement M
 whole-spec =
@@ -107,25 +94,16 @@ whole-spec =
     Inv-loop
     μ-loop
     loop-holds
-    sub-least
-    least-requires
     mul-a
     add-a
     mul-b
     add-b
-    mul-row
-    sub-row
-    part-row-start
-    part-row-end
-    mul-row-2
-    sub-row-2
-    part-row-start-2
-    part-row-end-2
-    slice-aggregate-row
-    row-requires
-    add-put
-    slice-aggregate-put
-    put-requires
+    sub-srgb-part
+    add-srgb-part
+    srgb-part-requires
+    sub-part
+    add-part
+    part-requires
     add-x
     loop-less
     loop-again
