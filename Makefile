@@ -17,7 +17,7 @@ export CARGO_TARGET_DIR = $(CURDIR)/target/cargo
 demo:
 	@tools/demo
 
-# Proves every crate, tries every wrong program, runs the programs, the C program and the Rust tests. Ends with rt ci's last line.
+# Proves every crate, tries every wrong program, runs the programs, the C programs and the Rust tests. Ends with rt ci's last line.
 test:
 	@tools/test
 
@@ -49,10 +49,12 @@ sheets: target/chain target/ranges
 	$(SHEET) samples/sprayed_sheet.txr docs/saturated.png $(FRAMED)
 	$(BALL) samples/studio.txr | $(PNG) docs/lit_ball.png
 
-# The long comparison with document 01 read plainly and, where they are given (SWRASTER_SRC), the station's own sources.
+# The long comparison with document 01 read plainly and, where they are given (SWRASTER_SRC), the station's own sources; then the
+# square root alone beside the C library's.
 differential: archive
 	@$(MACHINE); unit="$$cross_cargo --features unit"; can "the unit in the comparison" "$$no_rust" || unit=; \
 	  $(PLAIN) $$unit --bin differential -- large
+	tools/roots
 	tools/memory
 
 # Unit and source side by side, as ratios.

@@ -1,0 +1,63 @@
+/* How deep the stack of a chain call goes, by kind. The call runs on a stack of its own that was painted beforehand: what is no longer
+ * painted was used. The pictures have 13 levels, the most there are, one far wider than high, one far higher than wide. Prints the
+ * depth of each kind in bytes; answers 1 where one goes past its limit. */
+#define _XOPEN_SOURCE 700
+#include <stdint.h>
+#include <stdio.h>
+#include <stdlib.h>
+#include <string.h>
+#include <ucontext.h>
+
+#include "swathecold.h"
+
+enum { LONG = 4096, SHORT = 4, PAINT = 0xA5, ROOM = 1 << 16, TEXELS = 6 * 2 * LONG * SHORT };
+enum { WITHOUT_TABLE = 2048, SRGB = 5880 };
+
+static const struct {
+    const char *name;
+    size_t limit;
+} kinds[] = {{"SRGB", SRGB}, {"Normal", WITHOUT_TABLE}, {"MetallicRoughness", WITHOUT_TABLE}, {"Cubemap", WITHOUT_TABLE}, {"Linear", WITHOUT_TABLE}};
+
+static ucontext_t here, there;
+static unsigned char stack[ROOM];
+static uint32_t texels[TEXELS], kind, width, height, refused;
+
+static void nothing(void) {}
+
+static void chain(void) {
+    uint64_t written;
+    refused = swathecold_generate_mipmaps(kind, width, height, texels, TEXELS, &written);
+}
+
+static size_t used(void (*work)(void)) {
+    memset(stack, PAINT, ROOM);
+    if (getcontext(&there) != 0) abort();
+    there.uc_stack.ss_sp = stack;
+    there.uc_stack.ss_size = ROOM;
+    there.uc_link = &here;
+    makecontext(&there, work, 0);
+    if (swapcontext(&here, &there) != 0) abort();
+    size_t painted = 0;
+    while (painted < ROOM && stack[painted] == PAINT) painted++;
+    return ROOM - painted;
+}
+
+/* The first call is not measured: the loader may look names up in it. */
+static size_t depth(uint32_t w, uint32_t h) {
+    width = w, height = h;
+    for (size_t i = 0; i < TEXELS; i++) texels[i] = (uint32_t)(i * 2654435761u);
+    used(chain);
+    size_t of_the_call = used(chain) - used(nothing);
+    if (refused != 0) abort();
+    return of_the_call;
+}
+
+int main(void) {
+    int past = 0;
+    for (kind = 0; kind < sizeof kinds / sizeof *kinds; kind++) {
+        size_t wide = depth(LONG, SHORT), high = depth(SHORT, LONG), deepest = wide > high ? wide : high;
+        printf("stack of a chain call, %s: %zu bytes, limit %zu\n", kinds[kind].name, deepest, kinds[kind].limit);
+        past |= deepest > kinds[kind].limit;
+    }
+    return past;
+}
