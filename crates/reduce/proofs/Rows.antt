@@ -27,6 +27,10 @@ pub seen : (to : ℕ) (s old : List ℕ) → ((i : ℕ) → i < to → getD s i 
     → (p q i j : ℕ) → p + i ≡ q + j → p + i < to → getD (drop p s) i 0 ≡ getD (drop q old) j 0
 seen to s old same p q i j e lt = rw (getD-drop p s i 0, same (p + i) lt, e) (sym (getD-drop q old j 0))
 
+-- two rows of two, p p and q q, and room for a texel behind them
+abbrev columns : ℕ → ℕ → List ℕ
+columns p q = p ∷ p ∷ q ∷ q ∷ 0 ∷ []
+
 module _ (reduce : ℕ → ℕ → ℕ → ℕ → ℕ) where
   -- pairs x later are those of the starts 2 * x later
   pub pair-shift : (to r0 r1 x k : ℕ) (s old : List ℕ) → ((i : ℕ) → i < to → getD s i 0 ≡ getD old i 0)
@@ -62,13 +66,10 @@ module _ (reduce : ℕ → ℕ → ℕ → ℕ → ℕ) where
       over-more h (to + x) m (pairOf reduce (drop (r0 + 2 * x) s) (drop (r1 + 2 * x) s)) t refl et (omega arith)
       (λ k lt. pair-shift to r0 r1 x k s old (over-same h) (omega arith) (omega arith))
 
-  -- the texel of two rows with two columns each, p p and q q, that stand before it
-  pub two-columns : (p q m : ℕ) (t : List ℕ) → m ≡ 1 → t ≡ over 4 (p ∷ p ∷ q ∷ q ∷ 0 ∷ []) m (pairOf reduce (drop 0 (p ∷ p ∷ q ∷ q ∷ 0 ∷ [])) (drop 2 (p ∷ p ∷ q ∷ q ∷ 0 ∷ [])))
-      → getD t 4 0 ≡ reduce p p q q
+  -- the texel of those two rows, written behind them
+  pub two-columns : (p q m : ℕ) (t : List ℕ) → m ≡ 1 → t ≡ over 4 (columns p q) m (pairOf reduce (drop 0 (columns p q)) (drop 2 (columns p q))) → getD t 4 0 ≡ reduce p p q q
   unfolding pairOf
-  two-columns p q m t em et =
-      rw (et, em)
-      (over-within 4 (p ∷ p ∷ q ∷ q ∷ 0 ∷ []) 1 (pairOf reduce (drop 0 (p ∷ p ∷ q ∷ q ∷ 0 ∷ [])) (drop 2 (p ∷ p ∷ q ∷ q ∷ 0 ∷ []))) 0 (lit≤ tt) (lit< tt))
+  two-columns p q m t em et = rw (et, em) (over-within 4 (columns p q) 1 (pairOf reduce (drop 0 (columns p q)) (drop 2 (columns p q))) 0 (lit≤ tt) (lit< tt))
 
   -- a row one wide: both places of a pair are its one texel
   pub narrow-is : (to r0 r1 v : ℕ) (s : List ℕ) → to < length s → v ≡ reduce (getD s r0 0) (getD s r0 0) (getD s r1 0) (getD s r1 0)

@@ -1,4 +1,4 @@
-//! Chains: every edge side both ways, every byte flat, every pair of bytes, and drawn pictures.
+//! Chains: every edge side both ways, every byte flat, every pair of bytes, drawn pictures, and rows about as long as a part.
 
 use super::texels::drawn;
 use super::{edge_sides, Run};
@@ -16,6 +16,9 @@ pub fn run(run: &mut Run) {
         if run.scale.largest {
             largest_sides(run, kind);
         }
+    }
+    for kind in 0..=4 {
+        rows_about_parts(run, kind);
     }
 }
 
@@ -119,6 +122,17 @@ fn largest_sides(run: &mut Run, kind: u32) {
         for &height in &sides {
             let height = if kind == CUBEMAP { height / 8 } else { height };
             drawn_chain(run, kind, width, height);
+        }
+    }
+}
+
+/// Rows about as long as one and two of the parts of 64 and of 128 texels that a row is made by.
+fn rows_about_parts(run: &mut Run, kind: u32) {
+    for row in [63, 64, 65, 127, 128, 129, 255, 256, 257] {
+        for width in [2 * row, 2 * row + 1] {
+            for height in 1..=3 {
+                drawn_chain(run, kind, width, height);
+            }
         }
     }
 }
