@@ -1,5 +1,6 @@
-/* instructions CALL WRAP COUNT: makes so many calls of a lookup, each with drawn arguments of its own that the unit takes. They are
- * the same on every run. tools/instructions counts what the calls execute. */
+/* instructions CALL CODE COUNT: makes so many calls of a lookup with a wrap code, each with drawn arguments of its own that the unit takes.
+ * They are the same on every run. tools/instructions counts what the calls execute.
+ * instructions generate_mipmaps KIND COUNT WIDTH HEIGHT: so many chains of drawn texels. CALL may be nothing: arguments are drawn, and no call is made. */
 #include <stdint.h>
 #include <stdio.h>
 #include <stdlib.h>
@@ -53,35 +54,59 @@ static struct arguments drawn(void) {
     return a;
 }
 
+enum { NOTHING, MIP_LEVEL, SAMPLE4_RGB, SAMPLE4_ALPHA, BILINEAR_RGB, BILINEAR_ALPHA, CUBE_UV, CUBE_RGB, TRILINEAR_RGB, CHAIN, CALLS };
+static const char *const names[CALLS] = {
+    [NOTHING] = "nothing",
+    [MIP_LEVEL] = "compute_mip_level",
+    [SAMPLE4_RGB] = "sample4_rgb",
+    [SAMPLE4_ALPHA] = "sample4_alpha",
+    [BILINEAR_RGB] = "sample_bilinear_rgb",
+    [BILINEAR_ALPHA] = "sample_bilinear_alpha",
+    [CUBE_UV] = "cubemap_uv_from_normal",
+    [CUBE_RGB] = "sample_cubemap_rgb",
+    [TRILINEAR_RGB] = "sample_cubemap_trilinear_rgb",
+    [CHAIN] = "generate_mipmaps",
+};
+
+/* Which call has the name; CALLS where none has. */
+static int which(const char *name) {
+    int at = 0;
+    while (at < CALLS && strcmp(name, names[at])) at++;
+    return at;
+}
+
 /* The call's refusal number, or 0. */
-static uint32_t call(const char *name, uint32_t wrap, const struct arguments *a) {
+static uint32_t call(int at, uint32_t code, uint32_t width, uint32_t height, const struct arguments *a) {
     static const uint32_t no_faces[4];
     static uint32_t numbers[4];
+    static uint64_t written;
     static float lanes[12];
-    if (!strcmp(name, "compute_mip_level")) return swathecold_compute_mip_level(512, 512, a->steps, numbers);
-    if (!strcmp(name, "sample4_rgb")) return swathecold_sample4_rgb(FLAT, wrap, wrap, a->u, a->v, a->steps, lanes);
-    if (!strcmp(name, "sample4_alpha")) return swathecold_sample4_alpha(FLAT, wrap, wrap, a->u, a->v, a->steps, lanes);
-    if (!strcmp(name, "sample_bilinear_rgb"))
-        return swathecold_sample_bilinear_rgb(FLAT, wrap, wrap, a->u, a->v, a->level, no_faces, lanes);
-    if (!strcmp(name, "sample_bilinear_alpha"))
-        return swathecold_sample_bilinear_alpha(FLAT, wrap, wrap, a->u, a->v, a->level, lanes);
-    if (!strcmp(name, "cubemap_uv_from_normal")) return swathecold_cubemap_uv_from_normal(a->x, a->y, a->z, lanes, numbers);
-    if (!strcmp(name, "sample_cubemap_rgb")) return swathecold_sample_cubemap_rgb(CUBE, a->x, a->y, a->z, a->levels, lanes);
-    if (!strcmp(name, "sample_cubemap_trilinear_rgb"))
-        return swathecold_sample_cubemap_trilinear_rgb(CUBE, a->x, a->y, a->z, a->fractions, lanes);
-    fprintf(stderr, "instructions: no lookup is called %s\n", name);
-    exit(1);
+    switch (at) {
+    case NOTHING: return 0;
+    case MIP_LEVEL: return swathecold_compute_mip_level(512, 512, a->steps, numbers);
+    case SAMPLE4_RGB: return swathecold_sample4_rgb(FLAT, code, code, a->u, a->v, a->steps, lanes);
+    case SAMPLE4_ALPHA: return swathecold_sample4_alpha(FLAT, code, code, a->u, a->v, a->steps, lanes);
+    case BILINEAR_RGB: return swathecold_sample_bilinear_rgb(FLAT, code, code, a->u, a->v, a->level, no_faces, lanes);
+    case BILINEAR_ALPHA: return swathecold_sample_bilinear_alpha(FLAT, code, code, a->u, a->v, a->level, lanes);
+    case CUBE_UV: return swathecold_cubemap_uv_from_normal(a->x, a->y, a->z, lanes, numbers);
+    case CUBE_RGB: return swathecold_sample_cubemap_rgb(CUBE, a->x, a->y, a->z, a->levels, lanes);
+    case TRILINEAR_RGB: return swathecold_sample_cubemap_trilinear_rgb(CUBE, a->x, a->y, a->z, a->fractions, lanes);
+    default: return swathecold_generate_mipmaps(code, width, height, texels, TEXELS, &written);
+    }
 }
 
 int main(int count, char **words) {
-    if (count != 4) {
-        fputs("instructions: give CALL WRAP COUNT\n", stderr);
+    int at = count > 3 ? which(words[1]) : CALLS;
+    if (at == CALLS || count != (at == CHAIN ? 6 : 4)) {
+        fputs("instructions: give CALL CODE COUNT, or generate_mipmaps KIND COUNT WIDTH HEIGHT\n", stderr);
         return 1;
     }
+    uint32_t code = (uint32_t)atol(words[2]), width = 0, height = 0;
+    if (at == CHAIN) width = (uint32_t)atol(words[4]), height = (uint32_t)atol(words[5]);
     for (int i = 0; i < TEXELS; i++) texels[i] = (uint32_t)next();
     for (long left = atol(words[3]); left > 0; left--) {
         struct arguments a = drawn();
-        uint32_t refused = call(words[1], (uint32_t)atol(words[2]), &a);
+        uint32_t refused = call(at, code, width, height, &a);
         if (refused) {
             fprintf(stderr, "instructions: %s: refused %u\n", words[1], refused);
             return 1;
