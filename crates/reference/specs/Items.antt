@@ -1,5 +1,5 @@
 -- Document 01's reference list as one table: a row for each thing that it says, with the item's number, what is asked of the rules
--- and what 01 answers. `Holds table` is the one claim about it. Definitions only.
+-- and what 01 answers; and what document 02 says of an item in nearest mode. `Holds table` is the one claim about it. Definitions only.
 use mathlib.Core.Path.{_≡_}
 use mathlib.Core.List.{List, [], _∷_, map}
 use Prim.Native.Nat.{ℕ}
@@ -18,7 +18,7 @@ use Rattle.rules.specs.Floats.{zero32, half32, one32, minus1}
 use Rattle.rules.specs.Wrapping.{modeOf, wrapOf}
 use Rattle.rules.specs.Answers.{levelSizesAnswer, chainLeaves, mipLevelAnswer, facingAnswer, sample4RgbAnswer}
 
--- a row: the item's number, what is asked, what 01 answers
+-- a row: the item's number, what is asked, what is answered
 pub record Row : Type 1 where
   pub item : ℕ
   pub Kind : Type 0
@@ -39,9 +39,16 @@ Holds (r ∷ rs) = (r .asked ≡ r .answered) × Holds rs
 abbrev sizes : ℕ → ℕ → ℕ → Sizes
 sizes w h m = levelSizesAnswer linear w h m
 
+-- the packing modes: 01's items are those of truncating
+abbrev truncating : ℕ
+truncating = 0
+
+abbrev nearest : ℕ
+nearest = 1
+
 -- what a buffer of three holds after the chain call: two texels side by side, and the level made of them
-abbrev pair : ℕ → ℕ → ℕ → List ℕ
-pair kind p q = chainLeaves kind 2 1 (p ∷ q ∷ 0 ∷ [])
+abbrev pair : ℕ → ℕ → ℕ → ℕ → List ℕ
+pair kind mode p q = chainLeaves kind 2 1 mode (p ∷ q ∷ 0 ∷ [])
 
 -- the texel numbers of item 9, wrapped into a side of 4 by a code
 abbrev wraps : ℕ → List ℕ
@@ -99,7 +106,7 @@ table =
     ∷ row 2 (sizes 3 1 0) (Level 0 3 1 4)
     ∷ row 2 (sizes 3 1 1) (Level 3 1 1 4)
     ∷ row 2 (sizes 3 1 2) (NoSizes 6)
-    ∷ row 2 {A = ℕ → List ℕ} (λ third. chainLeaves linear 3 1 (0x00FF00FF ∷ 0xFF0000FF ∷ third ∷ 0 ∷ [])) (λ third. 0x00FF00FF ∷ 0xFF0000FF ∷ third ∷ 0x7F7F00FF ∷ [])
+    ∷ row 2 {A = ℕ → List ℕ} (λ third. chainLeaves linear 3 1 truncating (0x00FF00FF ∷ 0xFF0000FF ∷ third ∷ 0 ∷ [])) (λ third. 0x00FF00FF ∷ 0xFF0000FF ∷ third ∷ 0x7F7F00FF ∷ [])
     -- 4096 by 1: 13 levels, 8,191 texels. 4097: refusal 2
     ∷ row 3 (sizes 4096 1 12) (Level 8190 1 1 8191)
     ∷ row 3 (sizes 4096 1 13) (NoSizes 6)
@@ -108,14 +115,18 @@ table =
     ∷ row 4 (levelSizesAnswer cubemap 2 2 0) (Level 0 2 2 30)
     ∷ row 4 (levelSizesAnswer cubemap 2 2 1) (Level 24 1 1 30)
     ∷ row 4 (levelSizesAnswer cubemap 2 2 2) (NoSizes 6)
-    -- Linear 00FF00FF, FF0000FF side by side: 7F7F00FF
-    ∷ row 5 (pair linear 0x00FF00FF 0xFF0000FF) (0x00FF00FF ∷ 0xFF0000FF ∷ 0x7F7F00FF ∷ [])
-    -- Normal 01FF80FF twice: 00FF80FF
-    ∷ row 6 (pair normal 0x01FF80FF 0x01FF80FF) (0x01FF80FF ∷ 0x01FF80FF ∷ 0x00FF80FF ∷ [])
-    -- MetallicRoughness 11FF0022, 3300FF44: 11B47F22
-    ∷ row 7 (pair metallicRoughness 0x11FF0022 0x3300FF44) (0x11FF0022 ∷ 0x3300FF44 ∷ 0x11B47F22 ∷ [])
-    -- SRGB FF0000FF, 000000FF: BB0000FF
-    ∷ row 8 (pair srgb 0xFF0000FF 0x000000FF) (0xFF0000FF ∷ 0x000000FF ∷ 0xBB0000FF ∷ [])
+    -- Linear 00FF00FF, FF0000FF side by side: 7F7F00FF, nearest 808000FF
+    ∷ row 5 (pair linear truncating 0x00FF00FF 0xFF0000FF) (0x00FF00FF ∷ 0xFF0000FF ∷ 0x7F7F00FF ∷ [])
+    ∷ row 5 (pair linear nearest 0x00FF00FF 0xFF0000FF) (0x00FF00FF ∷ 0xFF0000FF ∷ 0x808000FF ∷ [])
+    -- Normal 01FF80FF twice: 00FF80FF, nearest 01FF80FF
+    ∷ row 6 (pair normal truncating 0x01FF80FF 0x01FF80FF) (0x01FF80FF ∷ 0x01FF80FF ∷ 0x00FF80FF ∷ [])
+    ∷ row 6 (pair normal nearest 0x01FF80FF 0x01FF80FF) (0x01FF80FF ∷ 0x01FF80FF ∷ 0x01FF80FF ∷ [])
+    -- MetallicRoughness 11FF0022, 3300FF44: 11B47F22, nearest 11B48022
+    ∷ row 7 (pair metallicRoughness truncating 0x11FF0022 0x3300FF44) (0x11FF0022 ∷ 0x3300FF44 ∷ 0x11B47F22 ∷ [])
+    ∷ row 7 (pair metallicRoughness nearest 0x11FF0022 0x3300FF44) (0x11FF0022 ∷ 0x3300FF44 ∷ 0x11B48022 ∷ [])
+    -- SRGB FF0000FF, 000000FF: BB0000FF, in nearest mode too
+    ∷ row 8 (pair srgb truncating 0xFF0000FF 0x000000FF) (0xFF0000FF ∷ 0x000000FF ∷ 0xBB0000FF ∷ [])
+    ∷ row 8 (pair srgb nearest 0xFF0000FF 0x000000FF) (0xFF0000FF ∷ 0x000000FF ∷ 0xBB0000FF ∷ [])
     -- side 4, t = -1, 4, 5, 8: Repeat 3 0 1 0; Clamp 0 3 3 3; Mirrored 1 3 3 0
     ∷ row 9 (wraps 10497) (3 ∷ 0 ∷ 1 ∷ 0 ∷ [])
     ∷ row 9 (wraps 33071) (0 ∷ 3 ∷ 3 ∷ 3 ∷ [])

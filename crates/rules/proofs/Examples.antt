@@ -6,13 +6,16 @@ use mathlib.Core.List.{[], _∷_, _++_}
 use Prim.Native.Nat.{ℕ, _+_, _*_, _%_}
 use lib.IntN.{pos, negsuc}
 use lib.Ieee.{binary32, neg, add, sub, mul, div, le, lt, ofBits, ofInt, toUnsigned}
+use Rattle.rules.specs.declared.Packing.the-variants.{Truncating, Nearest}
 use Rattle.rules.specs.Kinds.{normal, cubemap, linear, facesOf, rgba}
 use Rattle.rules.specs.Sizes.{sideAt, halvings, log2, top, sizeAt, start, count}
 use Rattle.rules.specs.Levels.{tab, grid, texel, quad, next, level, chain, filled}
 use Rattle.rules.specs.Cuts.{cut, matchingCut, cutTaken}
 use Rattle.rules.specs.View.{faceStart, faceView}
-use Rattle.rules.specs.Floats.{zero32, one32, magnitude}
-use Rattle.rules.specs.Reducing.{eachOf, meanByte, linearOf, normalByte, normalOf, reduceOf}
+use Rattle.rules.specs.Floats.{zero32, half32, one32, top32, magnitude, unpackOf}
+use Rattle.rules.specs.Whole.{upwardOf}
+use Rattle.rules.specs.Packing.{packingCode, packOf}
+use Rattle.rules.specs.Reducing.{eachOf, meanByte, linearOf, normalMean, normalByte, normalOf, reduceOf}
 use Rattle.rules.specs.Pictures.{chainOf, filledOf}
 use Rattle.rules.specs.Wrapping.{wrapCode, modeOf, remainderOf, mirroredOf, wrapOf}
 use Rattle.rules.specs.Faces.{signOf, oddOf, spotAt, spotOf}
@@ -21,7 +24,7 @@ use Rattle.rules.specs.NearestValue.{units, reaches, found, rootPattern}
 use Rattle.rules.specs.Root.{sqrtOf}
 use Rattle.rules.specs.Curve.{curvePattern, curve}
 use Rattle.rules.specs.Irradiance.{omegaOf, centreOf, distanceOf, weightOf, towards, dividedBy, basisOf, placeBasis, decodedOf, gets, allGet, inTurn, withTexel, sumsOf, timesBoth, foldedOf, irradianceOf}
-use Rattle.rules.specs.Refusals.{_orElse_, kindRefusal, sidesRefusal, bufferRefusal, levelRefusal, faceRefusal, noCubemapRefusal, cutRefusal, outsideRefusal, pictureRefusal, chainRefusal, viewRefusal, cutCallRefusal, rangesRefusal, replaceRefusal}
+use Rattle.rules.specs.Refusals.{_orElse_, kindRefusal, sidesRefusal, bufferRefusal, levelRefusal, faceRefusal, noCubemapRefusal, cutRefusal, outsideRefusal, modeRefusal, pictureRefusal, chainRefusal, mipmapsRefusal, viewRefusal, cutCallRefusal, rangesRefusal, replaceRefusal}
 use Rattle.rules.specs.Answers.{answer, chainLeaves, viewAnswer, cutLeaves, rangesLeaves, replaceRangesLeaves}
 
 -- ---- sizes
@@ -66,8 +69,8 @@ unfolding show4 filled chain start sizeAt sideAt next grid tab quad texel
 filled-three = refl
 
 -- a chain goes on to its top level
-to-the-top : chainOf linear 2 1 (0 ∷ 0xFFFFFFFF ∷ []) ≡ 0 ∷ 0xFFFFFFFF ∷ 0x7F7F7F7F ∷ []
-unfolding chainOf chain next grid tab quad texel top log2 halvings facesOf reduceOf linearOf eachOf meanByte rgba add mul div ofBits ofInt toUnsigned
+to-the-top : chainOf linear Truncating 2 1 (0 ∷ 0xFFFFFFFF ∷ []) ≡ 0 ∷ 0xFFFFFFFF ∷ 0x7F7F7F7F ∷ []
+unfolding chainOf chain next grid tab quad texel top log2 halvings facesOf reduceOf linearOf eachOf meanByte packOf rgba add mul div ofBits ofInt toUnsigned
 to-the-top = refl
 
 -- ---- cuts
@@ -94,6 +97,11 @@ cuts-taken = (refl, refl, refl, refl, refl, refl)
 chain-order : (chainRefusal 5 0 1 0 ≡ 1) × (chainRefusal linear 0 1 0 ≡ 2) × (chainRefusal linear 1 1 0 ≡ 3) × (chainRefusal linear 1 1 1 ≡ 0)
 unfolding chainRefusal pictureRefusal kindRefusal sidesRefusal bufferRefusal _orElse_ facesOf count start sizeAt sideAt top log2 halvings
 chain-order = (refl, refl, refl, refl)
+
+-- and with a packing mode 3 before 15
+mipmaps-order : (mipmapsRefusal linear 1 1 2 0 ≡ 3) × (mipmapsRefusal linear 1 1 2 1 ≡ 15) × (mipmapsRefusal linear 1 1 1 1 ≡ 0) × (mipmapsRefusal linear 1 1 0 1 ≡ 0)
+unfolding mipmapsRefusal modeRefusal packingCode chainRefusal pictureRefusal kindRefusal sidesRefusal bufferRefusal _orElse_ facesOf count start sizeAt sideAt top log2 halvings
+mipmaps-order = (refl, refl, refl, refl)
 
 -- sides 1 to 4,096
 side-range : (sidesRefusal 4096 1 ≡ 0) × (sidesRefusal 1 4096 ≡ 0) × (sidesRefusal 4097 1 ≡ 2) × (sidesRefusal 1 4097 ≡ 2) × (sidesRefusal 1 0 ≡ 2)
@@ -126,10 +134,10 @@ replace-order = (refl, refl, refl, refl, refl, refl)
 
 -- ---- what calls leave and hand out
 
--- a refusal changes no buffer: two entries are too few for the chain of 2 by 1
-refused-unchanged : chainLeaves linear 2 1 (1 ∷ 2 ∷ []) ≡ 1 ∷ 2 ∷ []
-unfolding chainLeaves answer chainRefusal pictureRefusal kindRefusal sidesRefusal bufferRefusal _orElse_ filledOf filled chain facesOf count start sizeAt sideAt top log2 halvings
-refused-unchanged = refl
+-- a refusal changes no buffer: two entries are too few for the chain of 2 by 1, and there is no mode 2
+refused-unchanged : (chainLeaves linear 2 1 0 (1 ∷ 2 ∷ []) ≡ 1 ∷ 2 ∷ []) × (chainLeaves linear 2 1 2 (1 ∷ 2 ∷ 0 ∷ []) ≡ 1 ∷ 2 ∷ 0 ∷ [])
+unfolding chainLeaves answer mipmapsRefusal modeRefusal packingCode chainRefusal pictureRefusal kindRefusal sidesRefusal bufferRefusal _orElse_ filledOf filled chain facesOf count start sizeAt sideAt top log2 halvings
+refused-unchanged = (refl, refl)
 
 -- a view of a cubemap's level is one face of it
 fifth-face : viewAnswer cubemap 1 1 (1 ∷ 2 ∷ 3 ∷ 4 ∷ 5 ∷ 6 ∷ []) 0 4 ≡ 5 ∷ []
@@ -161,14 +169,19 @@ three-lamps = (refl, refl, refl, refl)
 
 -- ---- slips that look right
 
--- the pack truncates: bytes 0 and 255 give 7F, and not 80
-truncated : meanByte 0 255 0 255 ≡ 0x7F
-unfolding meanByte add mul div ofBits ofInt toUnsigned
-truncated = refl
+-- truncating, bytes 0 and 255 give 7F, and not 80; nearest, 80: a half goes upward
+truncated : (meanByte Truncating 0 255 0 255 ≡ 0x7F) × (meanByte Nearest 0 255 0 255 ≡ 0x80)
+unfolding meanByte packOf upwardOf add mul div ofBits ofInt toUnsigned
+truncated = (refl, refl)
+
+-- the product of the normals 0, 0, 0, 2 is 0.49999997: no half, though an f32 sum with 0.5 makes it 1
+below-a-half : (normalByte Nearest 0 0 0 2 ≡ 0) × (toUnsigned 64 (add binary32 (mul binary32 (normalMean (unpackOf 0) (unpackOf 0) (unpackOf 0) (unpackOf 2)) top32) half32) ≡ 1)
+unfolding normalByte packOf upwardOf add sub mul div ofBits ofInt toUnsigned
+below-a-half = (refl, refl)
 
 -- byte 1 survives a plain mean; as a normal it does not
-byte-one : (meanByte 1 1 1 1 ≡ 1) × (reduceOf normal 0x01FF80FF 0x01FF80FF 0x01FF80FF 0x01FF80FF ≡ 0x00FF80FF)
-unfolding meanByte reduceOf normalOf normalByte eachOf rgba add sub mul div ofBits ofInt toUnsigned
+byte-one : (meanByte Truncating 1 1 1 1 ≡ 1) × (reduceOf normal Truncating 0x01FF80FF 0x01FF80FF 0x01FF80FF 0x01FF80FF ≡ 0x00FF80FF)
+unfolding meanByte packOf reduceOf normalOf normalByte eachOf rgba add sub mul div ofBits ofInt toUnsigned
 byte-one = (refl, refl)
 
 -- t = 5 mirrored into a side of 4 is 3, and not 2

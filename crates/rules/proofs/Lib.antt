@@ -3,6 +3,7 @@ pub mod Examples
 pub mod Grid
 pub mod Sides
 pub mod Refusing
+pub mod Truncating
 pub mod RefusingCuts
 pub mod RefusingLookups
 pub mod Bounds

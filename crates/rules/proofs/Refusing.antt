@@ -12,7 +12,8 @@ use lib.Dec.{leb, eqb}
 use Rattle.rules.specs.Kinds.{cubemap, facesOf}
 use Rattle.rules.specs.Sizes.{top, count}
 use Rattle.rules.specs.Pictures.{Picture}
-use Rattle.rules.specs.Refusals.{_orElse_, unless, kindRefusal, sideTaken, sidesRefusal, bufferRefusal, levelRefusal, noCubemapRefusal, onlyCubemapRefusal, faceRefusal, pictureRefusal, chainRefusal, levelSizesRefusal, viewRefusal}
+use Rattle.rules.specs.Packing.{packingCode}
+use Rattle.rules.specs.Refusals.{_orElse_, unless, kindRefusal, sideTaken, sidesRefusal, bufferRefusal, levelRefusal, noCubemapRefusal, onlyCubemapRefusal, faceRefusal, modeRefusal, pictureRefusal, chainRefusal, mipmapsRefusal, levelSizesRefusal, viewRefusal}
 use Rattle.rules.specs.Answers.{answer, leaves}
 
 -- ---- the first that is given
@@ -32,6 +33,11 @@ orElse-none (suc n) m e = absurd (omega (arith, orElse-given (suc n) m (λ z. om
 
 pub orElse-taken : (n m : ℕ) → n ≡ 0 → m ≡ 0 → (n orElse m) ≡ 0
 orElse-taken n m p q = orElse-zero n m p ∙ q
+
+-- a last number that is none
+pub orElse-last : (n : ℕ) → (n orElse 0) ≡ n
+orElse-last zero = orElse-zero 0 0 refl
+orElse-last (suc n) = orElse-given (suc n) 0 (λ z. omega arith)
 
 -- ---- n where the test fails
 
@@ -208,6 +214,23 @@ pub face-refused : (kind f : ℕ) → facesOf kind ≤ f → faceRefusal kind f 
 unfolding faceRefusal
 face-refused kind f h = le-refused 8 (suc-le-suc h)
 
+-- ---- 15: packing mode unknown
+
+pub mode-taken : (mode : ℕ) → mode ≤ 1 → modeRefusal mode ≡ 0
+unfolding modeRefusal packingCode
+mode-taken zero h = refl
+mode-taken (suc zero) h = refl
+mode-taken (suc (suc mode)) h = absurd (omega arith)
+
+pub mode-refused : (mode : ℕ) → 1 < mode → modeRefusal mode ≡ 15
+unfolding modeRefusal packingCode
+mode-refused mode h = rw (ne-eqb mode 0 (λ e. omega arith), ne-eqb mode 1 (λ e. omega arith))
+
+pub mode-facts : (mode : ℕ) → modeRefusal mode ≡ 0 → mode ≤ 1
+mode-facts zero e = omega arith
+mode-facts (suc zero) e = omega arith
+mode-facts (suc (suc mode)) e = absurd (omega (arith, mode-refused (suc (suc mode)) (omega arith)))
+
 -- ---- 1, 2: a picture
 
 -- a kind up to 4 and sides 1 to 4,096
@@ -269,6 +292,30 @@ chain-picture kind w h n given = orElse-given _ _ given
 pub chain-short : (kind w h n : ℕ) → Taken kind w h → n < count (facesOf kind) w h → chainRefusal kind w h n ≡ 3
 unfolding chainRefusal
 chain-short kind w h n t short = orElse-zero _ _ (picture-taken kind w h t) ∙ buffer-refused _ n short
+
+-- ---- 1, 2, 3, 15: the same with a packing mode
+
+pub record Mipmapped (kind w h mode n : ℕ) : Type 0 where
+  pub chained : Chained kind w h n
+  pub known : mode ≤ 1
+
+pub mipmaps-taken : (kind w h mode n : ℕ) → Mipmapped kind w h mode n → mipmapsRefusal kind w h mode n ≡ 0
+unfolding mipmapsRefusal
+mipmaps-taken kind w h mode n c = orElse-taken _ _ (chain-taken kind w h n (c .chained)) (mode-taken mode (c .known))
+
+pub mipmaps-facts : (kind w h mode n : ℕ) → mipmapsRefusal kind w h mode n ≡ 0 → Mipmapped kind w h mode n
+unfolding mipmapsRefusal
+mipmaps-facts kind w h mode n e =
+    let b = orElse-none (chainRefusal kind w h n) (modeRefusal mode) e in
+    record { chained = chain-facts kind w h n (b .0); known = mode-facts mode (b .1) }
+
+pub mipmaps-chain : (kind w h mode n : ℕ) → (chainRefusal kind w h n ≡ 0 → ⊥) → mipmapsRefusal kind w h mode n ≡ chainRefusal kind w h n
+unfolding mipmapsRefusal
+mipmaps-chain kind w h mode n given = orElse-given _ _ given
+
+pub mipmaps-mode : (kind w h mode n : ℕ) → Chained kind w h n → 1 < mode → mipmapsRefusal kind w h mode n ≡ 15
+unfolding mipmapsRefusal
+mipmaps-mode kind w h mode n c above = orElse-zero _ _ (chain-taken kind w h n c) ∙ mode-refused mode above
 
 -- ---- 1, 2, 6: level sizes
 

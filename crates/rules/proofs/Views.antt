@@ -12,11 +12,12 @@ use Rattle.rules.specs.Kinds.{cubemap, facesOf}
 use Rattle.rules.specs.Sizes.{sideAt, top, sizeAt, start, count}
 use Rattle.rules.specs.View.{faceStart, faceView}
 use Rattle.rules.specs.Levels.{level, filled}
+use Rattle.rules.specs.Packing.{packingOf}
 use Rattle.rules.specs.Pictures.{Picture, levelOf, chainOf, filledOf}
 use Rattle.rules.specs.Answers.{chainAnswer, chainLeaves, viewAnswer}
 use Rattle.rules.proofs.Sides.{size-zero}
 use Rattle.rules.proofs.Bounds.{faces-cube, faces-flat, level-end, face-end}
-use Rattle.rules.proofs.Refusing.{answer-given, Chained, chain-taken, view-taken}
+use Rattle.rules.proofs.Refusing.{answer-given, Chained, Mipmapped, mipmaps-taken, view-taken}
 use Rattle.rules.proofs.Laws.{length-chainOf, chain-holds}
 
 -- ---- the chain call
@@ -32,16 +33,16 @@ part-front n s l rest le =
 abbrev pub level0 : ℕ → ℕ → ℕ → List ℕ → List ℕ
 level0 kind w h buffer = take (facesOf kind * h * w) buffer
 
-module _ (kind w h : ℕ) (buffer : List ℕ) (c : Chained kind w h (length buffer)) where
+module _ (kind w h mode : ℕ) (buffer : List ℕ) (c : Mipmapped kind w h mode (length buffer)) where
   room0 : facesOf kind * h * w ≤ length buffer
   room0 =
-      let t = c .taken in
+      let t = c .chained .taken in
       let z = size-zero (facesOf kind) w h (t .some-w) (t .some-h) in
       omega (arith, level-end (facesOf kind) w h 0 (omega arith))
 
   pub front-picture : Picture kind w h (level0 kind w h buffer)
   front-picture =
-      let t = c .taken in
+      let t = c .chained .taken in
       record {
         known = t .known;
         some-w = t .some-w;
@@ -52,38 +53,38 @@ module _ (kind w h : ℕ) (buffer : List ℕ) (c : Chained kind w h (length buff
       }
 
   -- the chain call leaves the chain, and behind it what it found
-  pub chain-left : chainLeaves kind w h buffer ≡ chainOf kind w h (level0 kind w h buffer) ++ drop (count (facesOf kind) w h) buffer
+  pub chain-left : chainLeaves kind w h mode buffer ≡ chainOf kind (packingOf mode) w h (level0 kind w h buffer) ++ drop (count (facesOf kind) w h) buffer
   unfolding chainLeaves filledOf filled chainOf count
-  chain-left = answer-given _ _ _ (chain-taken kind w h (length buffer) c)
+  chain-left = answer-given _ _ _ (mipmaps-taken kind w h mode (length buffer) c)
 
-  pub chain-answered : chainAnswer kind w h buffer ≡ Texels (count (facesOf kind) w h)
+  pub chain-answered : chainAnswer kind w h mode buffer ≡ Texels (count (facesOf kind) w h)
   unfolding chainAnswer
-  chain-answered = answer-given _ _ _ (chain-taken kind w h (length buffer) c)
+  chain-answered = answer-given _ _ _ (mipmaps-taken kind w h mode (length buffer) c)
 
-  pub length-left : length (chainLeaves kind w h buffer) ≡ length buffer
+  pub length-left : length (chainLeaves kind w h mode buffer) ≡ length buffer
   length-left =
-      let r = c .room in
-      rw (chain-left, length-append, length-drop, length-chainOf kind w h (level0 kind w h buffer) front-picture) (omega arith)
+      let r = c .chained .room in
+      rw (chain-left, length-append, length-drop, length-chainOf kind (packingOf mode) w h (level0 kind w h buffer) front-picture) (omega arith)
 
   -- the chain is the first `count` texels of what is left
-  pub chain-front : take (count (facesOf kind) w h) (chainLeaves kind w h buffer) ≡ chainOf kind w h (level0 kind w h buffer)
-  chain-front = rw chain-left (take-at (chainOf kind w h (level0 kind w h buffer)) _ _ (length-chainOf kind w h (level0 kind w h buffer) front-picture))
+  pub chain-front : take (count (facesOf kind) w h) (chainLeaves kind w h mode buffer) ≡ chainOf kind (packingOf mode) w h (level0 kind w h buffer)
+  chain-front = rw chain-left (take-at (chainOf kind (packingOf mode) w h (level0 kind w h buffer)) _ _ (length-chainOf kind (packingOf mode) w h (level0 kind w h buffer) front-picture))
 
   module _ (m : ℕ) (le : m ≤ top w h) where
     -- level m of the picture stands at its place in what is left
-    level-left : take (sizeAt (facesOf kind) w h m) (drop (start (facesOf kind) w h m) (chainLeaves kind w h buffer)) ≡ levelOf kind m w h (level0 kind w h buffer)
+    level-left : take (sizeAt (facesOf kind) w h m) (drop (start (facesOf kind) w h m) (chainLeaves kind w h mode buffer)) ≡ levelOf kind (packingOf mode) m w h (level0 kind w h buffer)
     level-left =
         let F = facesOf kind in
-        let l = chainOf kind w h (level0 kind w h buffer) in
-        let n = length-chainOf kind w h (level0 kind w h buffer) front-picture in
+        let l = chainOf kind (packingOf mode) w h (level0 kind w h buffer) in
+        let n = length-chainOf kind (packingOf mode) w h (level0 kind w h buffer) front-picture in
         let end = level-end F w h m le in
         rw (chain-left, part-front (start F w h m) (sizeAt F w h m) l (drop (count F w h) buffer) (omega arith))
-        (chain-holds kind w h (level0 kind w h buffer) front-picture m le)
+        (chain-holds kind (packingOf mode) w h (level0 kind w h buffer) front-picture m le)
 
   -- level 0 stays as it was
-  pub level0-left : level0 kind w h (chainLeaves kind w h buffer) ≡ level0 kind w h buffer
+  pub level0-left : level0 kind w h (chainLeaves kind w h mode buffer) ≡ level0 kind w h buffer
   unfolding start levelOf level
-  level0-left = let t = c .taken in rw (size-zero (facesOf kind) w h (t .some-w) (t .some-h)) at (level-left 0 (omega arith))
+  level0-left = let t = c .chained .taken in rw (size-zero (facesOf kind) w h (t .some-w) (t .some-h)) at (level-left 0 (omega arith))
 
 -- ---- the view
 
@@ -126,25 +127,25 @@ pub views-cube : (kind w h : ℕ) (texels : List ℕ) (m : ℕ) → kind ≡ cub
 unfolding views
 views-cube kind w h texels m cube = rw (faces-cube kind cube)
 
-module _ (kind w h : ℕ) (buffer : List ℕ) (c : Chained kind w h (length buffer)) (m : ℕ) (le : m ≤ top w h) where
-  left-chained : Chained kind w h (length (chainLeaves kind w h buffer))
-  left-chained = rw (length-left kind w h buffer c) c
+module _ (kind w h mode : ℕ) (buffer : List ℕ) (c : Mipmapped kind w h mode (length buffer)) (m : ℕ) (le : m ≤ top w h) where
+  left-chained : Chained kind w h (length (chainLeaves kind w h mode buffer))
+  left-chained = rw (length-left kind w h mode buffer c) (c .chained)
 
   -- after the chain call all faces of level m, viewed in their order, are level m
-  pub views-left : views kind w h (chainLeaves kind w h buffer) m (facesOf kind) ≡ levelOf kind m w h (level0 kind w h buffer)
-  views-left = views-level kind w h (chainLeaves kind w h buffer) left-chained m le ∙ level-left kind w h buffer c m le
+  pub views-left : views kind w h (chainLeaves kind w h mode buffer) m (facesOf kind) ≡ levelOf kind (packingOf mode) m w h (level0 kind w h buffer)
+  views-left = views-level kind w h (chainLeaves kind w h mode buffer) left-chained m le ∙ level-left kind w h mode buffer c m le
 
   -- a view of one face of it is its part of the chain
   pub view-left : (f : ℕ) → f < facesOf kind
-      → viewAnswer kind w h (chainLeaves kind w h buffer) m f
-      ≡ take (sideAt m h * sideAt m w) (drop (faceStart (facesOf kind) w h m f) (chainOf kind w h (level0 kind w h buffer)))
+      → viewAnswer kind w h (chainLeaves kind w h mode buffer) m f
+      ≡ take (sideAt m h * sideAt m w) (drop (faceStart (facesOf kind) w h m f) (chainOf kind (packingOf mode) w h (level0 kind w h buffer)))
   unfolding faceStart
   view-left f lt =
-      let n = length-chainOf kind w h (level0 kind w h buffer) (front-picture kind w h buffer c) in
+      let n = length-chainOf kind (packingOf mode) w h (level0 kind w h buffer) (front-picture kind w h mode buffer c) in
       let end = face-end (facesOf kind) w h m f le lt in
-      view-handed kind w h (chainLeaves kind w h buffer) left-chained m le f lt
-      ∙ rw (chain-left kind w h buffer c, part-front (faceStart (facesOf kind) w h m f) (sideAt m h * sideAt m w) (chainOf kind w h (level0 kind w h buffer)) (drop (count (facesOf kind) w h) buffer) (omega arith))
+      view-handed kind w h (chainLeaves kind w h mode buffer) left-chained m le f lt
+      ∙ rw (chain-left kind w h mode buffer c, part-front (faceStart (facesOf kind) w h m f) (sideAt m h * sideAt m w) (chainOf kind (packingOf mode) w h (level0 kind w h buffer)) (drop (count (facesOf kind) w h) buffer) (omega arith))
 
   -- of a picture that is no cubemap it is the level
-  pub view-flat : (kind ≡ cubemap → ⊥) → viewAnswer kind w h (chainLeaves kind w h buffer) m 0 ≡ levelOf kind m w h (level0 kind w h buffer)
-  view-flat flat = sym (views-flat kind w h (chainLeaves kind w h buffer) m flat) ∙ views-left
+  pub view-flat : (kind ≡ cubemap → ⊥) → viewAnswer kind w h (chainLeaves kind w h mode buffer) m 0 ≡ levelOf kind (packingOf mode) m w h (level0 kind w h buffer)
+  view-flat flat = sym (views-flat kind w h (chainLeaves kind w h mode buffer) m flat) ∙ views-left

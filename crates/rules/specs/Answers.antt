@@ -31,6 +31,7 @@ use Rattle.rules.specs.Kinds.{facesOf}
 use Rattle.rules.specs.Sizes.{sideAt, start, count}
 use Rattle.rules.specs.Cuts.{cut}
 use Rattle.rules.specs.View.{faceView}
+use Rattle.rules.specs.Packing.{packingOf}
 use Rattle.rules.specs.Pictures.{filledOf}
 use Rattle.rules.specs.Cross.{crossWidth, crossHeight, crossOf}
 use Rattle.rules.specs.Lanes.{lanesOf, rgbLanes}
@@ -42,7 +43,7 @@ use Rattle.rules.specs.Faces.{spotOf}
 use Rattle.rules.specs.Cubemap.{cubemapRgb, trilinearRgb}
 use Rattle.rules.specs.Ranges.{rangesOf, rangesSize, replaced, rangeReplaced}
 use Rattle.rules.specs.Irradiance.{irradianceOf}
-use Rattle.rules.specs.Refusals.{chainRefusal, levelSizesRefusal, viewRefusal, cutCallRefusal, crossRefusal, mipLevelRefusal, sample4Refusal, bilinearRgbRefusal, bilinearAlphaRefusal, directionsRefusal, cubemapRefusal, trilinearRefusal, rangesRefusal, replaceRefusal, irradianceRefusal}
+use Rattle.rules.specs.Refusals.{mipmapsRefusal, levelSizesRefusal, viewRefusal, cutCallRefusal, crossRefusal, mipLevelRefusal, sample4Refusal, bilinearRgbRefusal, bilinearAlphaRefusal, directionsRefusal, cubemapRefusal, trilinearRefusal, rangesRefusal, replaceRefusal, irradianceRefusal}
 
 -- the answer where the refusal number is 0, and else what is answered for that number
 unfoldable pub answer : {A : Type 0} → ℕ → (ℕ → A) → A → A
@@ -58,12 +59,12 @@ levelSizesAnswer kind w h m =
     answer (levelSizesRefusal kind w h m) NoSizes
     (Level (start (facesOf kind) w h m) (sideAt m w) (sideAt m h) (count (facesOf kind) w h))
 
--- the chain call fills the rest and answers the chain's texel count
-unfoldable pub chainAnswer : ℕ → ℕ → ℕ → List ℕ → Filled
-chainAnswer kind w h l = answer (chainRefusal kind w h (length l)) NoTexels (Texels (count (facesOf kind) w h))
+-- the chain call fills the rest by the packing mode and answers the chain's texel count
+unfoldable pub chainAnswer : ℕ → ℕ → ℕ → ℕ → List ℕ → Filled
+chainAnswer kind w h mode l = answer (mipmapsRefusal kind w h mode (length l)) NoTexels (Texels (count (facesOf kind) w h))
 
-unfoldable pub chainLeaves : ℕ → ℕ → ℕ → List ℕ → List ℕ
-chainLeaves kind w h l = leaves (chainRefusal kind w h (length l)) l (filledOf kind w h l)
+unfoldable pub chainLeaves : ℕ → ℕ → ℕ → ℕ → List ℕ → List ℕ
+chainLeaves kind w h mode l = leaves (mipmapsRefusal kind w h mode (length l)) l (filledOf kind (packingOf mode) w h l)
 
 -- the level view, and an empty part where it refuses
 unfoldable pub viewAnswer : ℕ → ℕ → ℕ → List ℕ → ℕ → ℕ → List ℕ

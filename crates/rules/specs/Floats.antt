@@ -1,10 +1,10 @@
--- The f32 numbers that document 01 names, and a texel's bytes as f32 and back. Each operation is an f32 operation rounded once.
+-- The f32 numbers that document 01 names, and a texel's bytes as f32. Each operation is an f32 operation rounded once.
 -- Definitions only.
 use Prim.Native.Nat.{ℕ}
 use mathlib.Core.Bool.{cond}
 use lib.Dec.{T}
 use lib.IntN.{pos}
-use lib.Ieee.{Float, binary32, neg, add, sub, mul, div, le, lt, ofInt, ofBits, toUnsigned}
+use lib.Ieee.{Float, binary32, neg, add, sub, mul, div, le, lt, ofInt, ofBits}
 
 -- 0.0, 0.5, 1.0, -1.0, 2.0, 4.0 and 255.0, by their bit patterns
 abbrev pub zero32 : Float
@@ -48,10 +48,6 @@ float n = ofInt binary32 (pos n)
 -- unpack: byte / 255.0
 abbrev pub unpackOf : ℕ → Float
 unpackOf b = div binary32 (float b) top32
-
--- pack: value * 255.0, truncated
-abbrev pub packOf : Float → ℕ
-packOf x = toUnsigned 64 (mul binary32 x top32)
 
 -- the sum runs p00, p10, p01, p11, left to right, then / 4.0
 abbrev pub meanOf : Float → Float → Float → Float → Float

@@ -8,12 +8,13 @@ pub mod Floats
 pub mod NearestValue
 pub mod Root
 pub mod Curve
+pub mod Whole
+pub mod Packing
 pub mod Reducing
 pub mod Pictures
 pub mod Cross
 pub mod Lanes
 pub mod Wrapping
-pub mod Whole
 pub mod Footprint
 pub mod Places
 pub mod Bilinear

@@ -12,6 +12,8 @@ use Rattle.rules.specs.declared.Sampler.{Sampler}
 use Rattle.rules.specs.declared.Pair.{Pair}
 use Rattle.rules.specs.declared.Wrap.{Wrap}
 use Rattle.rules.specs.declared.Wrap.the-variants.{By, Refused}
+use Rattle.rules.specs.declared.PackingCode.{PackingCode}
+use Rattle.rules.specs.declared.PackingCode.the-variants.{By as Packed, Refused as NotPacked}
 use Rattle.rules.specs.Kinds.{cubemap, facesOf}
 use Rattle.rules.specs.Sizes.{top, count}
 use Rattle.rules.specs.Cuts.{cutTaken}
@@ -20,6 +22,7 @@ use Rattle.rules.specs.Ranges.{rangesSize}
 use Rattle.rules.specs.Floats.{magnitude}
 use Rattle.rules.specs.Lanes.{inLanes, inWholes, inDirections}
 use Rattle.rules.specs.Wrapping.{wrapCode}
+use Rattle.rules.specs.Packing.{packingCode}
 use Rattle.rules.specs.Faces.{directionTaken}
 
 -- the first that is given
@@ -105,15 +108,27 @@ cutRefusal k w h corner sides = unless (cutTaken k w h (corner .x) (corner .y) (
 unfoldable pub outsideRefusal : ℕ → ℕ → ℕ → ℕ → ℕ
 outsideRefusal w h x y = unless (ltb x w && ltb y h) 14
 
+-- 15: packing mode unknown
+abbrev pub packingRefusal : PackingCode → ℕ
+packingRefusal (Packed packing) = 0
+packingRefusal (NotPacked n) = n
+
+unfoldable pub modeRefusal : ℕ → ℕ
+modeRefusal mode = packingRefusal (packingCode mode)
+
 -- ---- the calls: n is the length of a lent buffer
 
 -- 1, 2
 unfoldable pub pictureRefusal : ℕ → ℕ → ℕ → ℕ
 pictureRefusal kind w h = kindRefusal kind orElse sidesRefusal w h
 
--- chain, sampling, level view: the whole chain. 1, 2, 3
+-- sampling, level view: the whole chain. 1, 2, 3
 unfoldable pub chainRefusal : ℕ → ℕ → ℕ → ℕ → ℕ
 chainRefusal kind w h n = pictureRefusal kind w h orElse bufferRefusal (count (facesOf kind) w h) n
+
+-- generate_mipmaps: 1, 2, 3, 15
+unfoldable pub mipmapsRefusal : ℕ → ℕ → ℕ → ℕ → ℕ → ℕ
+mipmapsRefusal kind w h mode n = chainRefusal kind w h n orElse modeRefusal mode
 
 -- level_sizes: 1, 2, 6
 unfoldable pub levelSizesRefusal : ℕ → ℕ → ℕ → ℕ → ℕ

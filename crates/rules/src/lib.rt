@@ -100,6 +100,17 @@ pub enum Wrap {
     Refused(u32),
 }
 
+// The two packing modes.
+pub enum Packing {
+    Truncating,
+    Nearest,
+}
+
+pub enum PackingCode {
+    By(Packing),
+    Refused(u32),
+}
+
 // A level within a chain: where it starts, and its faces and their sides.
 pub struct Plane {
     pub start: usize,
