@@ -10,6 +10,7 @@ pub mod Patterns
 pub mod Wholes
 pub mod Sums
 pub mod Packs
+pub mod Kept
 pub mod Evens
 pub mod Floors
 pub mod Fraction
@@ -22,3 +23,4 @@ pub mod Every
 pub mod Table
 pub mod Inverse
 pub mod Claims
+pub mod RoundedMeans

@@ -6,14 +6,14 @@ use native.Mathlib.Nat.{mul-le-mul-right, zero-lt-suc}
 use native.Mathlib.Omega.{arith}
 use lib.Dec.{T}
 use lib.IntN.{pos}
-use lib.Ieee.{Float, Format, binary32, round, neg, add, sub, mul, div, le, ofInt, ofBits, toUnsigned}
+use lib.Ieee.{Float, Format, binary32, round, neg, add, sub, mul, div, le, ofInt, ofBits}
 use lib.Ieee.Order.{round-mono}
 use lib.Ieee.Scale.{finite}
 use lib.Ieee.Positive.{positive, positive-finite}
-use Rattle.rules.specs.Floats.{Between, zero32, half32, one32, minus1, two32, four32, top32, unpackOf, packOf, meanOf, restOf}
+use Rattle.rules.specs.Floats.{Between, zero32, half32, one32, minus1, two32, four32, top32, unpackOf, meanOf, restOf}
 use Rattle.rules.specs.Reducing.{spreadOf, backOf, normalMean}
 use Rattle.rules.specs.Faces.{onFace}
-use Rattle.texel.proofs.Range.{Between-finite, in-add, in-sub, in-mul, in-div, whole-mono, neg-finite, div-self, div-neg-self}
+use Rattle.texel.proofs.Range.{in-add, in-sub, in-mul, in-div, neg-finite, div-self, div-neg-self}
 
 -- a range whose ends are written otherwise
 pub ends : {lo lo' x hi hi' : Float} → lo ≡ lo' → hi ≡ hi' → Between lo x hi → Between lo' x hi'
@@ -74,7 +74,7 @@ pub mean-in : (a b c d : Float) → Between zero32 a one32 → Between zero32 b 
 unfolding ofBits add
 mean-in a b c d p q r s = ends m-low m-high (mean-from zero32 one32 a b c d tt tt tt tt tt tt tt tt p q r s)
 
--- ---- the pack: value * 255.0 lies in 0 to 255, and its whole part is a byte
+-- ---- the pack: value * 255.0 lies in 0 to 255
 p1 : mul binary32 one32 top32 ≡ top32
 unfolding mul ofBits
 p1 = refl
@@ -89,12 +89,6 @@ scaled-in x b = ends z0 p1 (in-mul binary32 zero32 x one32 zero32 top32 top32 tt
   where
     z0 : mul binary32 zero32 zero32 ≡ zero32
     z0 = unfold mul in refl
-
-pub pack-lt : (x : Float) → Between zero32 x one32 → packOf x ≤ 255
-unfolding ofBits toUnsigned
-pack-lt x b =
-    let k = scaled-in x b in
-    whole-mono 64 (mul binary32 x top32) top32 (Between-finite zero32 (mul binary32 x top32) top32 tt tt k) tt (k .high)
 
 -- ---- Normal: p*2 - 1 lies in -1 to 1, and (mean + 1) / 2 in 0 to 1
 zero-two : Between zero32 two32 two32

@@ -1,6 +1,9 @@
-// A byte as an f32, and an f32 from 0 to 1 as a byte.
+// A byte as an f32, and an f32 from 0 to 1 as a byte, by a packing mode.
+use rules::Packing;
 ghost use mathlib.Core.Path.{_≡_};
-ghost use Rattle.rules.specs.Floats.{Between, zero32, one32, unpackOf, packOf};
+ghost use Rattle.rules.specs.Floats.{Between, zero32, one32, unpackOf};
+ghost use Rattle.rules.specs.Packing.{packOf};
+ghost use Rattle.texel.specs.Offsets.{offsetOf};
 
 // Unpack: byte / 255.0.
 pub fn unpack(byte: u8) -> f32
@@ -9,12 +12,23 @@ pub fn unpack(byte: u8) -> f32
     (byte as f32) / 255.0
 }
 
-// Pack: value * 255.0, truncated. The f64 sum p + 2^28 has the whole part of a p from 0 to 255 in its bits 24 to 31.
-pub fn pack(value: f32) -> u8
+// What is added to a product: 2^26, and to the nearest 2^26 + 1/2.
+fn offset(packing: Packing) -> f64
+    ensures { λ r. ⌜ r ≡ offsetOf packing ⌝ }
+{
+    match packing {
+        Packing::Truncating => 67108864.0,
+        Packing::Nearest => 67108864.5,
+    }
+}
+
+// Pack: value * 255.0, truncated, or to the nearest with a half upward. The f64 sum of a product from 0 to 255 and the offset has the whole
+// number in its bits 26 to 33.
+pub fn pack(packing: Packing, value: f32) -> u8
     requires { ⌜ Between zero32 value one32 ⌝ }
-    ensures { λ r. ⌜ r ≡ packOf value ⌝ }
+    ensures { λ r. ⌜ r ≡ packOf packing value ⌝ }
 {
     let p = value * 255.0;
-    let y = (p as f64) + 268435456.0;
-    ((f64::to_bits(y) / 16777216) % 256) as u8
+    let y = (p as f64) + offset(packing);
+    ((f64::to_bits(y) / 67108864) % 256) as u8
 }
