@@ -19,3 +19,7 @@ pub record Channel (channel : ℕ → ℕ) (q : Quad) (r : Bytes) : Type 0 where
   pub second : r .b ≡ channel (q .p10)
   pub third : r .c ≡ channel (q .p01)
   pub fourth : r .d ≡ channel (q .p11)
+
+-- the same added up, and 2: four times the mean, and a half
+abbrev pub sumOf : (ℕ → ℕ) → Quad → ℕ
+sumOf channel q = channel (q .p00) + channel (q .p10) + channel (q .p01) + channel (q .p11) + 2

@@ -6,6 +6,7 @@ use crate::channel::greens;
 use crate::channel::mean;
 use crate::channel::pairs_at;
 use crate::linear;
+use rules::Packing;
 use texel::bytes::alpha;
 use texel::bytes::red;
 use texel::bytes::rgba;
@@ -28,32 +29,33 @@ fn square(byte: u8) -> f32
 }
 
 // The green channel.
-fn byte(p: Bytes) -> u8
-    ensures { λ r. ⌜ r ≡ roughByte (p .a) (p .b) (p .c) (p .d) ⌝ }
+fn byte(packing: Packing, p: Bytes) -> u8
+    ensures { λ r. ⌜ r ≡ roughByte packing (p .a) (p .b) (p .c) (p .d) ⌝ }
 {
-    pack(sqrt(mean(square(p.a), square(p.b), square(p.c), square(p.d))))
+    let m = mean(square(p.a), square(p.b), square(p.c), square(p.d));
+    pack(packing, sqrt(m))
 }
 
 // One texel.
-pub fn reduced(q: Quad) -> u32
-    ensures { λ v. ⌜ v ≡ metallicOf (q .p00) (q .p10) (q .p01) (q .p11) ⌝ }
+pub fn reduced(packing: Packing, q: Quad) -> u32
+    ensures { λ v. ⌜ v ≡ metallicOf packing (q .p00) (q .p10) (q .p01) (q .p11) ⌝ }
 {
     rgba(
         red(q.p00),
-        byte(greens(q)),
-        linear::byte(blues(q)),
+        byte(packing, greens(q)),
+        linear::byte(packing, blues(q)),
         alpha(q.p00),
     )
 }
 
 // n texels of a row, from pairs of the two rows above.
-pub fn row(n: usize, a: &[u32], b: &[u32], o: &mut [u32])
+pub fn row(packing: Packing, n: usize, a: &[u32], b: &[u32], o: &mut [u32])
     requires { ⌜ (n ≤ length (now o)) × (2 * n ≤ length (now a)) × (2 * n ≤ length (now b)) ⌝ }
-    ensures { λ _. ⌜ now (o .exit) ≡ over 0 (now (o .entry)) n (pairOf metallicOf (now (a .entry)) (now (b .entry))) ⌝ }
+    ensures { λ _. ⌜ now (o .exit) ≡ over 0 (now (o .entry)) n (pairOf (metallicOf packing) (now (a .entry)) (now (b .entry))) ⌝ }
 {
     let mut x = 0;
     while x < n {
-        o[x] = reduced(pairs_at(x, a, b));
+        o[x] = reduced(packing, pairs_at(x, a, b));
         x += 1;
     }
 }

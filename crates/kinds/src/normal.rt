@@ -7,6 +7,7 @@ use crate::channel::greens;
 use crate::channel::mean;
 use crate::channel::pairs_at;
 use crate::channel::reds;
+use rules::Packing;
 use texel::bytes::rgba;
 use texel::packing::pack;
 use texel::packing::unpack;
@@ -25,32 +26,33 @@ fn spread(byte: u8) -> f32
 }
 
 // One channel.
-pub fn byte(p: Bytes) -> u8
-    ensures { λ r. ⌜ r ≡ normalByte (p .a) (p .b) (p .c) (p .d) ⌝ }
+pub fn byte(packing: Packing, p: Bytes) -> u8
+    ensures { λ r. ⌜ r ≡ normalByte packing (p .a) (p .b) (p .c) (p .d) ⌝ }
 {
-    pack((mean(spread(p.a), spread(p.b), spread(p.c), spread(p.d)) + 1.0) / 2.0)
+    let m = mean(spread(p.a), spread(p.b), spread(p.c), spread(p.d));
+    pack(packing, (m + 1.0) / 2.0)
 }
 
 // One texel.
-pub fn reduced(q: Quad) -> u32
-    ensures { λ v. ⌜ v ≡ normalOf (q .p00) (q .p10) (q .p01) (q .p11) ⌝ }
+pub fn reduced(packing: Packing, q: Quad) -> u32
+    ensures { λ v. ⌜ v ≡ normalOf packing (q .p00) (q .p10) (q .p01) (q .p11) ⌝ }
 {
     rgba(
-        byte(reds(q)),
-        byte(greens(q)),
-        byte(blues(q)),
-        byte(alphas(q)),
+        byte(packing, reds(q)),
+        byte(packing, greens(q)),
+        byte(packing, blues(q)),
+        byte(packing, alphas(q)),
     )
 }
 
 // n texels of a row, from pairs of the two rows above.
-pub fn row(n: usize, a: &[u32], b: &[u32], o: &mut [u32])
+pub fn row(packing: Packing, n: usize, a: &[u32], b: &[u32], o: &mut [u32])
     requires { ⌜ (n ≤ length (now o)) × (2 * n ≤ length (now a)) × (2 * n ≤ length (now b)) ⌝ }
-    ensures { λ _. ⌜ now (o .exit) ≡ over 0 (now (o .entry)) n (pairOf normalOf (now (a .entry)) (now (b .entry))) ⌝ }
+    ensures { λ _. ⌜ now (o .exit) ≡ over 0 (now (o .entry)) n (pairOf (normalOf packing) (now (a .entry)) (now (b .entry))) ⌝ }
 {
     let mut x = 0;
     while x < n {
-        o[x] = reduced(pairs_at(x, a, b));
+        o[x] = reduced(packing, pairs_at(x, a, b));
         x += 1;
     }
 }

@@ -17,13 +17,13 @@ same-length : tie.Need-same-length
 same-length c = search needs
 
 returns : tie.Need-returns
-returns c = rw (of-normal _ (c .before .before .before .before .match .keys1)) (c .before .before .row .ensures)
+returns c = rw (of-normal _ _ (c .before .before .before .before .match .keys1)) (c .before .before .row .ensures)
 
 same-length-2 : tie.Need-same-length-2
 same-length-2 c = search needs
 
 returns-2 : tie.Need-returns-2
-returns-2 c = rw (of-metallic _ (c .before .before .before .before .match .keys2)) (c .before .before .row2 .ensures)
+returns-2 c = rw (of-metallic _ _ (c .before .before .before .before .match .keys2)) (c .before .before .row2 .ensures)
 
 same-length-3 : tie.Need-same-length-3
 same-length-3 c = search needs
@@ -32,7 +32,7 @@ returns-3 : tie.Need-returns-3
 returns-3 c =
     let at = c .before .before .before .before in
     let not = at .match .rest in
-    rw (of-linear _ (at .before .before .before .before .pre .0) (not .0 .1) (not .1)) (c .before .before .row3 .ensures)
+    rw (of-linear _ _ (at .before .before .before .before .pre .0) (not .0 .1) (not .1)) (c .before .before .row3 .ensures)
 
 pub row-without-table-spec : {M : Type 1} → statement M
 row-without-table-spec = tie.close (tie.spec row-requires row-requires-2 row-requires-3 same-length returns same-length-2 returns-2 same-length-3 returns-3)

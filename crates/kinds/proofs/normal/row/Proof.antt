@@ -9,10 +9,10 @@ use Rattle.kinds.proofs.normal.row.Statement.{statement}
 use Rattle.kinds.proofs.normal.row.Tie as tie
 
 abbrev Inv-loop : tie.InvT-loop
-Inv-loop n a b o₀ x₀ o x = (x ≤ n) × Over 0 o₀ x (pairOf normalOf a b) o
+Inv-loop packing n a b o₀ x₀ o x = (x ≤ n) × Over 0 o₀ x (pairOf (normalOf packing) a b) o
 
 abbrev μ-loop : tie.MeasureT-loop
-μ-loop n a b o₀ x₀ o x = n - x
+μ-loop packing n a b o₀ x₀ o x = n - x
 
 loop-holds : tie.Need-loop-holds Inv-loop μ-loop
 loop-holds c = (omega arith, over-first _ _ _ (omega arith))
@@ -38,7 +38,7 @@ loop-less c = omega arith
 loop-again : tie.Need-loop-again Inv-loop μ-loop
 loop-again c =
     let inside = c .before .before in
-    (omega arith, row-more normalOf _ _ _ _ _ _ _ (inside .before .loop .inv .1) (omega arith) (c .before .pairs-at .ensures) (c .reduced .ensures))
+    (omega arith, row-more (normalOf _) _ _ _ _ _ _ _ (inside .before .loop .inv .1) (omega arith) (c .before .pairs-at .ensures) (c .reduced .ensures))
 
 same-length : tie.Need-same-length Inv-loop μ-loop
 same-length c = c .before .loop .inv .1 .as-long

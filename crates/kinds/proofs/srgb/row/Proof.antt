@@ -9,10 +9,10 @@ use Rattle.kinds.proofs.srgb.row.Statement.{statement}
 use Rattle.kinds.proofs.srgb.row.Tie as tie
 
 abbrev Inv-loop : tie.InvT-loop
-Inv-loop n a b o₀ t index x₀ o x = (x ≤ n) × Over 0 o₀ x (pairOf srgbOf a b) o
+Inv-loop packing n a b o₀ t index x₀ o x = (x ≤ n) × Over 0 o₀ x (pairOf (srgbOf packing) a b) o
 
 abbrev μ-loop : tie.MeasureT-loop
-μ-loop n a b o₀ t index x₀ o x = n - x
+μ-loop packing n a b o₀ t index x₀ o x = n - x
 
 curve-table-requires : tie.Need-curve-table-requires Inv-loop μ-loop
 curve-table-requires c κs = tt
@@ -46,7 +46,7 @@ loop-less c = omega arith
 loop-again : tie.Need-loop-again Inv-loop μ-loop
 loop-again c =
     let inside = c .before .before .before .before in
-    (omega arith, row-more srgbOf _ _ _ _ _ _ _ (inside .before .loop .inv .1) (omega arith) (c .before .pairs-at .ensures) (c .by-tables .ensures))
+    (omega arith, row-more (srgbOf _) _ _ _ _ _ _ _ (inside .before .loop .inv .1) (omega arith) (c .before .pairs-at .ensures) (c .by-tables .ensures))
 
 same-length : tie.Need-same-length Inv-loop μ-loop
 same-length c = c .before .loop .inv .1 .as-long
