@@ -7,16 +7,19 @@ use lib.ListN.{length, drop}
 use Rattle.rules.specs.declared.Pair.{Pair}
 use Rattle.rules.specs.declared.Filled.{Filled}
 use Rattle.rules.specs.declared.Filled.the-variants.{Texels, Refused}
+use Rattle.rules.specs.declared.Packing.{Packing}
+use Rattle.rules.specs.declared.PackingCode.the-variants.{By, Refused as NoMode}
 use Rattle.rules.specs.declared.Sizes.the-variants.{Level, Refused as NoSizes}
 use Rattle.rules.specs.Kinds.{facesOf}
 use Rattle.rules.specs.Sizes.{sideAt, start, count}
 use Rattle.rules.specs.Cuts.{cut}
 use Rattle.rules.specs.View.{faceView}
+use Rattle.rules.specs.Packing.{packingCode}
 use Rattle.rules.specs.Pictures.{filledOf}
 use Rattle.rules.specs.Cross.{crossWidth, crossHeight, crossOf}
-use Rattle.rules.specs.Refusals.{levelSizesRefusal, chainRefusal, viewRefusal, cutCallRefusal, crossRefusal}
+use Rattle.rules.specs.Refusals.{levelSizesRefusal, chainRefusal, mipmapsRefusal, viewRefusal, cutCallRefusal, crossRefusal}
 use Rattle.rules.specs.Answers.{answer, leaves, levelSizesAnswer, chainAnswer, chainLeaves, viewAnswer, cutAnswer, cutLeaves, crossAnswer, crossLeaves}
-use Rattle.rules.proofs.Refusing.{answer-given, answer-refused}
+use Rattle.rules.proofs.Refusing.{answer-given, answer-refused, code-by, code-refused, mipmaps-chain, mipmaps-mode}
 
 pub passed : {r n : ℕ} → r ≡ n → r ≡ 0 → n ≡ 0
 passed e none = sym e ∙ none
@@ -43,15 +46,27 @@ module _ (kind w h m : ℕ) where
   sizes-goes none = sym (answer-given _ _ _ none)
 
 module _ (kind w h : ℕ) (l : List ℕ) where
-  pub chain-stops : {r : ℕ} → r ≡ chainRefusal kind w h (length l) → (r ≡ 0 → ⊥)
-      → (Refused r ≡ chainAnswer kind w h l) × (l ≡ chainLeaves kind w h l)
-  unfolding chainAnswer chainLeaves
-  chain-stops e some = stops _ _ _ e some
+  module _ (mode : ℕ) where
+    chain-refused : {r : ℕ} → r ≡ mipmapsRefusal kind w h mode (length l) → (r ≡ 0 → ⊥)
+        → (Refused r ≡ chainAnswer kind w h mode l) × (l ≡ chainLeaves kind w h mode l)
+    unfolding chainAnswer chainLeaves
+    chain-refused e some = stops _ _ _ e some
 
-  pub chain-goes : {n : ℕ} {t : List ℕ} → chainRefusal kind w h (length l) ≡ 0 → n ≡ count (facesOf kind) w h → t ≡ filledOf kind w h l
-      → (Texels n ≡ chainAnswer kind w h l) × (t ≡ chainLeaves kind w h l)
-  unfolding chainAnswer chainLeaves
-  chain-goes none en et = goes _ _ _ none en et
+    -- by 1, 2 or 3; by 15
+    pub chain-stops : {r : ℕ} → r ≡ chainRefusal kind w h (length l) → (r ≡ 0 → ⊥)
+        → (Refused r ≡ chainAnswer kind w h mode l) × (l ≡ chainLeaves kind w h mode l)
+    chain-stops e some = chain-refused (e ∙ sym (mipmaps-chain kind w h mode (length l) (λ z. some (e ∙ z)))) some
+
+    pub mode-stops : {r : ℕ} → chainRefusal kind w h (length l) ≡ 0 → NoMode r ≡ packingCode mode
+        → (Refused r ≡ chainAnswer kind w h mode l) × (l ≡ chainLeaves kind w h mode l)
+    mode-stops {r} none e = let k = code-refused mode r e in chain-refused (k .0 ∙ sym (mipmaps-mode kind w h mode (length l) none)) (k .1)
+
+    pub chain-goes : {n : ℕ} {t : List ℕ} {packing : Packing} → chainRefusal kind w h (length l) ≡ 0 → By packing ≡ packingCode mode → n ≡ count (facesOf kind) w h → t ≡ filledOf kind packing w h l
+        → (Texels n ≡ chainAnswer kind w h mode l) × (t ≡ chainLeaves kind w h mode l)
+    unfolding chainAnswer chainLeaves
+    chain-goes {packing = packing} none e en et =
+        let k = code-by mode packing e in
+        goes _ _ _ (mipmaps-mode kind w h mode (length l) none ∙ k .0) en (et ∙ rw (k .1))
 
   module _ (m f : ℕ) where
     pub view-stops : {r : ℕ} → r ≡ viewRefusal kind w h (length l) m f → (r ≡ 0 → ⊥) → [] ≡ viewAnswer kind w h l m f

@@ -5,22 +5,41 @@ use crate::sizes::faces_of;
 use crate::sizes::top_level;
 use reduce::chain::fill;
 use rules::Filled;
+use rules::Packing;
+use rules::PackingCode;
 ghost use mathlib.Core.Path.{_≡_};
+ghost use Rattle.rules.specs.Packing.{packingCode};
 ghost use Rattle.rules.specs.Answers.{chainAnswer, chainLeaves};
 
-// Fills the levels after level 0, each made from the one before, and answers how many texels the chain has.
-pub fn generate_mipmaps(kind: u32, width: u32, height: u32, texels: &mut [u32]) -> Filled
-    ensures answer { λ r. ⌜ r ≡ chainAnswer kind width height (now (texels .entry)) ⌝ }
-    ensures leaves { λ _. ⌜ now (texels .exit) ≡ chainLeaves kind width height (now (texels .entry)) ⌝ }
+// 0 truncating, 1 nearest; refusal 15 for every other code.
+pub fn packing_code(code: u32) -> PackingCode
+    ensures { λ r. ⌜ r ≡ packingCode code ⌝ }
+{
+    match code {
+        0 => PackingCode::By(Packing::Truncating),
+        1 => PackingCode::By(Packing::Nearest),
+        _ => PackingCode::Refused(15),
+    }
+}
+
+// Fills the levels after level 0, each made from the one before by the packing mode, and answers how many texels the chain has.
+pub fn generate_mipmaps(kind: u32, width: u32, height: u32, mode: u32, texels: &mut [u32]) -> Filled
+    ensures answer { λ r. ⌜ r ≡ chainAnswer kind width height mode (now (texels .entry)) ⌝ }
+    ensures leaves { λ _. ⌜ now (texels .exit) ≡ chainLeaves kind width height mode (now (texels .entry)) ⌝ }
 {
     let refusal = chain_refusal(kind, width, height, texels.len());
     if refusal != 0 {
         return Filled::Refused(refusal);
     }
-    let faces = faces_of(kind);
-    let w = width as usize;
-    let h = height as usize;
-    let levels = (top_level(width, height) as usize) + 1;
-    fill(kind, faces, w, h, levels, texels);
-    Filled::Texels(count_of(faces, width, height))
+    match packing_code(mode) {
+        PackingCode::By(packing) => {
+            let faces = faces_of(kind);
+            let w = width as usize;
+            let h = height as usize;
+            let levels = (top_level(width, height) as usize) + 1;
+            fill(kind, packing, faces, w, h, levels, texels);
+            Filled::Texels(count_of(faces, width, height))
+        }
+        PackingCode::Refused(n) => Filled::Refused(n),
+    }
 }

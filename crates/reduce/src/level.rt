@@ -1,5 +1,6 @@
 // The next level behind a level, row by row through all its faces.
 use crate::row::write_row;
+use rules::Packing;
 ghost use mathlib.Core.Path.{_≡_};
 ghost use Prim.Native.Nat.{_+_, _-_, _*_, _<_, _≤_, min};
 ghost use lib.ListN.{length};
@@ -31,10 +32,10 @@ fn second(y: usize, h: usize) -> usize
 }
 
 // Writes the level after the level at the front of s behind it.
-pub fn write_next(kind: u32, faces: usize, w: usize, h: usize, s: &mut [u32])
+pub fn write_next(kind: u32, packing: Packing, faces: usize, w: usize, h: usize, s: &mut [u32])
     requires { ⌜ Sides faces w h ⌝ }
     requires { ⌜ faces * h * w + faces * half h * half w ≤ length (now s) ⌝ }
-    ensures { λ _. ⌜ now (s .exit) ≡ written (reduceOf kind) faces w h (now (s .entry)) ⌝ }
+    ensures { λ _. ⌜ now (s .exit) ≡ written (reduceOf kind packing) faces w h (now (s .entry)) ⌝ }
 {
     let w2 = halved(w);
     let h2 = halved(h);
@@ -45,7 +46,15 @@ pub fn write_next(kind: u32, faces: usize, w: usize, h: usize, s: &mut [u32])
         let top = y / h2 * h;
         let i = y % h2;
         let j = second(i, h);
-        write_row(kind, w, (top + 2 * i) * w, (top + j) * w, n + y * w2, s);
+        write_row(
+            kind,
+            packing,
+            w,
+            (top + 2 * i) * w,
+            (top + j) * w,
+            n + y * w2,
+            s,
+        );
         y += 1;
     }
 }

@@ -1,7 +1,7 @@
 -- What a refusal number says: 0 exactly when the facts that the call needs hold, and else the first number that is given.
 -- For a part X of the arguments: `X-taken`, its number is 0 where the facts hold; `X-facts`, they hold where it is 0;
 -- `X-refused`, its number where they do not. Assumes nothing.
-use mathlib.Core.Path.{_≡_, refl, sym, _∙_}
+use mathlib.Core.Path.{_≡_, refl, sym, ap, _∙_}
 use mathlib.Core.Bool.{Bool, true, false, not, _&&_, false≢true}
 use mathlib.Core.List.{List}
 use mathlib.Core.Logic.{_⊎_, inl, inr, ⊎-elim}
@@ -9,10 +9,13 @@ use Prim.Native.Nat.{ℕ, zero, suc, _≤_, _<_, suc-le-suc}
 use native.Mathlib.Omega.{arith}
 use borrow.Author.Tests.{leb-true, eqb-true, eqb-false, not-true, le-leb, lt-leb, eq-eqb, ne-eqb}
 use lib.Dec.{leb, eqb}
+use Rattle.rules.specs.declared.Packing.{Packing}
+use Rattle.rules.specs.declared.PackingCode.{PackingCode}
+use Rattle.rules.specs.declared.PackingCode.the-variants.{By, Refused}
 use Rattle.rules.specs.Kinds.{cubemap, facesOf}
 use Rattle.rules.specs.Sizes.{top, count}
 use Rattle.rules.specs.Pictures.{Picture}
-use Rattle.rules.specs.Packing.{packingCode}
+use Rattle.rules.specs.Packing.{packingCode, packingOf}
 use Rattle.rules.specs.Refusals.{_orElse_, unless, kindRefusal, sideTaken, sidesRefusal, bufferRefusal, levelRefusal, noCubemapRefusal, onlyCubemapRefusal, faceRefusal, modeRefusal, pictureRefusal, chainRefusal, mipmapsRefusal, levelSizesRefusal, viewRefusal}
 use Rattle.rules.specs.Answers.{answer, leaves}
 
@@ -231,6 +234,21 @@ mode-facts zero e = omega arith
 mode-facts (suc zero) e = omega arith
 mode-facts (suc (suc mode)) e = absurd (omega (arith, mode-refused (suc (suc mode)) (omega arith)))
 
+-- what a code stands for: a mode, or 15
+pub code-by : (mode : ℕ) (packing : Packing) → By packing ≡ packingCode mode → (modeRefusal mode ≡ 0) × (packing ≡ packingOf mode)
+unfolding modeRefusal
+code-by mode packing e = rw (← e) (refl, refl)
+
+abbrev known-code : PackingCode → Bool
+known-code (By packing) = true
+known-code (Refused n) = false
+
+pub code-refused : (mode n : ℕ) → Refused n ≡ packingCode mode → (n ≡ modeRefusal mode) × (n ≡ 0 → ⊥)
+unfolding packingCode modeRefusal
+code-refused zero n e = absurd (false≢true (ap known-code e))
+code-refused (suc zero) n e = absurd (false≢true (ap known-code e))
+code-refused (suc (suc mode)) n e = let r = mode-refused (suc (suc mode)) (omega arith) in let g : n ≡ modeRefusal (suc (suc mode)) = rw (← e) refl in (g, λ z. omega arith)
+
 -- ---- 1, 2: a picture
 
 -- a kind up to 4 and sides 1 to 4,096
@@ -313,9 +331,9 @@ pub mipmaps-chain : (kind w h mode n : ℕ) → (chainRefusal kind w h n ≡ 0 �
 unfolding mipmapsRefusal
 mipmaps-chain kind w h mode n given = orElse-given _ _ given
 
-pub mipmaps-mode : (kind w h mode n : ℕ) → Chained kind w h n → 1 < mode → mipmapsRefusal kind w h mode n ≡ 15
+pub mipmaps-mode : (kind w h mode n : ℕ) → chainRefusal kind w h n ≡ 0 → mipmapsRefusal kind w h mode n ≡ modeRefusal mode
 unfolding mipmapsRefusal
-mipmaps-mode kind w h mode n c above = orElse-zero _ _ (chain-taken kind w h n c) ∙ mode-refused mode above
+mipmaps-mode kind w h mode n none = orElse-zero _ _ none
 
 -- ---- 1, 2, 6: level sizes
 

@@ -17,7 +17,7 @@ use Rattle.reduce.proofs.chain.+fill.{statement}
 use Rattle.reduce.proofs.chain.+fill.Tie.{close}
 
 abbrev μ : Measures 1 fill-kinds.ps ℕ
-μ κs a = a .1 .1 .1 .1 .0
+μ κs a = a .1 .1 .1 .1 .1 .0
 
 abbrev at : ℕ → In 1 fill-kinds.ps
 at t = and 1 fill-kinds.ps (is 1 fill-kinds.ps μ t) fill.Pre
@@ -33,8 +33,8 @@ module _ (t : ℕ) where
   -- what has been done where the part is lent
   wrote : (c : lts.After-halved2 (known t) (at t) fill.Post)
       → let start = c .before .before .before .before .before .before .before .before .before in
-      Written (reduceOf (start .args .kind)) (start .args .faces) (start .args .w) (start .args .h) (start .args .left) (c .before .before .size .result) (start .args .s .now)
-      (c .before .before .before .before .before .write-next .last .1 .1 .1 .1 .0)
+      Written (reduceOf (start .args .kind) (start .args .packing)) (start .args .faces) (start .args .w) (start .args .h) (start .args .left) (c .before .before .size .result) (start .args .s .now)
+      (c .before .before .before .before .before .write-next .last .1 .1 .1 .1 .1 .0)
   wrote c =
       let then = c .before .before .before .before .before .before .before in
       let start = then .before .before in
@@ -50,7 +50,7 @@ module _ (t : ℕ) where
   write-next-requires c κs =
       let start = c .before .before .before in
       let more = c .before .if1 .taken in
-      (start .pre .1 .0, step-room (reduceOf (start .args .kind)) _ _ _ _ (start .args .s .now) (start .pre .1 .0) (omega arith) (start .pre .1 .1 .1))
+      (start .pre .1 .0, step-room (reduceOf (start .args .kind) (start .args .packing)) _ _ _ _ (start .args .s .now) (start .pre .1 .0) (omega arith) (start .pre .1 .1 .1))
 
   size-requires : lts.Need-size-requires (known t) (at t) fill.Post
   size-requires c κs = search needs
@@ -94,7 +94,7 @@ module _ (t : ℕ) where
   write-next-requires-2 : lts.Need-write-next-requires-2 (known t) (at t) fill.Post
   write-next-requires-2 c κs =
       let start = c .before .before .before .before in
-      (start .pre .1 .0, step-room (reduceOf (start .args .kind)) _ _ _ _ (start .args .s .now) (start .pre .1 .0) (c .before .if2 .taken) (start .pre .1 .1 .1))
+      (start .pre .1 .0, step-room (reduceOf (start .args .kind) (start .args .packing)) _ _ _ _ (start .args .s .now) (start .pre .1 .0) (c .before .if2 .taken) (start .pre .1 .1 .1))
 
   same-length-2 : lts.Need-same-length-2 (known t) (at t) fill.Post
   same-length-2 c = search needs
@@ -104,13 +104,13 @@ module _ (t : ℕ) where
       let call = c .before .before in
       let then = call .before .before in
       let start = then .before .before .before in
-      step-last (reduceOf (start .args .kind)) _ _ _ _ (start .args .s .now) (start .pre .1 .0) (then .if2 .taken) (start .pre .1 .1 .1) _ (call .write-next2 .ensures)
+      step-last (reduceOf (start .args .kind) (start .args .packing)) _ _ _ _ (start .args .s .now) (start .pre .1 .0) (then .if2 .taken) (start .pre .1 .1 .1) _ (call .write-next2 .ensures)
       (then .before .if1 .left)
 
   returns-3 : lts.Need-returns-3 (known t) (at t) fill.Post
   returns-3 c =
       let start = c .before .before .before in
-      step-none (reduceOf (start .args .kind)) (start .pre .1 .0) (start .pre .1 .1 .0) (c .if2 .left)
+      step-none (reduceOf (start .args .kind) (start .args .packing)) (start .pre .1 .0) (start .pre .1 .1 .0) (c .if2 .left)
 
 pub +fill-spec : {M : Type 1} → statement M
 +fill-spec =

@@ -11,10 +11,10 @@ use Rattle.reduce.proofs.level.write_next.Statement.{statement}
 use Rattle.reduce.proofs.level.write_next.Tie as tie
 
 abbrev Inv-loop : tie.InvT-loop
-Inv-loop kind faces w h s₀ w2 h2 n rows y₀ s y = Rows (reduceOf kind) faces w h w2 h2 n s₀ s y
+Inv-loop kind packing faces w h s₀ w2 h2 n rows y₀ s y = Rows (reduceOf kind packing) faces w h w2 h2 n s₀ s y
 
 abbrev μ-loop : tie.MeasureT-loop
-μ-loop kind faces w h s₀ w2 h2 n rows y₀ s y = faces * h2 - y
+μ-loop kind packing faces w h s₀ w2 h2 n rows y₀ s y = faces * h2 - y
 
 halved-requires : tie.Need-halved-requires Inv-loop μ-loop
 halved-requires c κs = search needs

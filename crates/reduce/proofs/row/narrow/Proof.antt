@@ -40,8 +40,8 @@ same-length c = search needs
 returns : tie.Need-returns
 returns c =
     let start = c .before .before .before .before in
-    narrow-is (reduceOf (start .args .kind)) (start .args .to) (start .args .r0) (start .args .r1) _ (start .args .s .now) (omega arith)
-    (⊎-elim (λ w. w .2 ∙ rw (of-srgb _ (w .0 .keys1)) (w .1 .ensures)) (λ w. w .2 ∙ w .1 .ensures) (c .match .came))
+    narrow-is (reduceOf (start .args .kind) (start .args .packing)) (start .args .to) (start .args .r0) (start .args .r1) _ (start .args .s .now) (omega arith)
+    (⊎-elim (λ w. w .2 ∙ rw (of-srgb _ _ (w .0 .keys1)) (w .1 .ensures)) (λ w. w .2 ∙ w .1 .ensures) (c .match .came))
 
 pub narrow-spec : {M : Type 1} → statement M
 narrow-spec =

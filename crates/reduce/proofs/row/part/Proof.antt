@@ -53,7 +53,7 @@ returns c =
     let row = put .before .before .before .before in
     let least = row .before .before .before .before .before in
     let start = least .before .before in
-    (least .least .ensures, part-is (reduceOf (start .args .kind)) (start .args .to) (start .args .r0) (start .args .r1) (least .least .result) (start .args .s .now) _ _ _ (row .row-without-table .ensures) (put .put .ensures))
+    (least .least .ensures, part-is (reduceOf (start .args .kind) (start .args .packing)) (start .args .to) (start .args .r0) (start .args .r1) (least .least .result) (start .args .s .now) _ _ _ (row .row-without-table .ensures) (put .put .ensures))
 
 pub part-spec : {M : Type 1} → statement M
 part-spec =

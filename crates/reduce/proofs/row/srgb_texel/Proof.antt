@@ -17,7 +17,7 @@ array-read-result c = search needs
 returns : tie.Need-returns
 returns c =
     let call = c .before in
-    two-columns srgbOf _ _ (call .srgb-part .result) _ (call .srgb-part .ensures .0) (call .srgb-part .ensures .1)
+    two-columns (srgbOf _) _ _ (call .srgb-part .result) _ (call .srgb-part .ensures .0) (call .srgb-part .ensures .1)
 
 pub srgb-texel-spec : {M : Type 1} → statement M
 srgb-texel-spec = tie.close (tie.spec slice-aggregate-srgb-part srgb-part-requires array-read-result returns)

@@ -14,10 +14,10 @@ use Rattle.reduce.proofs.row.whole.Statement.{statement}
 use Rattle.reduce.proofs.row.whole.Tie as tie
 
 abbrev Inv-loop : tie.InvT-loop
-Inv-loop kind n r0 r1 to s₀ x₀ s x = (x ≤ n) × Over to s₀ x (pairOf (reduceOf kind) (drop r0 s₀) (drop r1 s₀)) s
+Inv-loop kind packing n r0 r1 to s₀ x₀ s x = (x ≤ n) × Over to s₀ x (pairOf (reduceOf kind packing) (drop r0 s₀) (drop r1 s₀)) s
 
 abbrev μ-loop : tie.MeasureT-loop
-μ-loop kind n r0 r1 to s₀ x₀ s x = n - x
+μ-loop kind packing n r0 r1 to s₀ x₀ s x = n - x
 
 loop-holds : tie.Need-loop-holds Inv-loop μ-loop
 loop-holds c = (omega arith, over-first _ _ _ (omega arith))
@@ -56,16 +56,16 @@ part-requires c κs = (pos-of-ne-zero (c .before .match .rest .1), omega arith)
 made : (c : tie.At-match-came Inv-loop μ-loop)
     → let loop = c .before .before in
     let a = loop .before .before .args in
-    (1 ≤ c .match .m) × (loop .loop .x + c .match .m ≤ a .n) × Over (a .to) (a .s .now) (loop .loop .x + c .match .m) (pairOf (reduceOf (a .kind)) (drop (a .r0) (a .s .now)) (drop (a .r1) (a .s .now))) (c .match .s)
+    (1 ≤ c .match .m) × (loop .loop .x + c .match .m ≤ a .n) × Over (a .to) (a .s .now) (loop .loop .x + c .match .m) (pairOf (reduceOf (a .kind) (a .packing)) (drop (a .r0) (a .s .now)) (drop (a .r1) (a .s .now))) (c .match .s)
 made c =
     let loop = c .before .before in
     let a = loop .before .before .args in
-    let turn = row-turn (reduceOf (a .kind)) (a .to) (a .r0) (a .r1) (a .n) (loop .loop .x) (c .match .m) (a .s .now) (loop .loop .s) (c .match .s) (loop .loop .inv .1) (omega arith) (omega arith) (omega arith) in
+    let turn = row-turn (reduceOf (a .kind) (a .packing)) (a .to) (a .r0) (a .r1) (a .n) (loop .loop .x) (c .match .m) (a .s .now) (loop .loop .s) (c .match .s) (loop .loop .inv .1) (omega arith) (omega arith) (omega arith) in
     ⊎-elim
     (λ w.
     let e = w .6 in
     let m = w .2 .ensures .0 in
-    (omega arith, omega arith, turn (omega arith) (w .5 ∙ rw (e, of-srgb (a .kind) (w .0 .keys1)) (w .2 .ensures .1))))
+    (omega arith, omega arith, turn (omega arith) (w .5 ∙ rw (e, of-srgb (a .kind) (a .packing) (w .0 .keys1)) (w .2 .ensures .1))))
     (λ w.
     let e = w .6 in
     let m = w .2 .ensures .0 in

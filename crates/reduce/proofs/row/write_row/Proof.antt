@@ -15,7 +15,7 @@ same-length c = search needs
 returns : tie.Need-returns
 returns c =
     let start = c .before .before .before .before .before .before in
-    one-is (reduceOf (start .args .kind)) (start .args .to) (start .args .w) (start .args .r0) (start .args .r1) (start .args .s .now) _ (omega arith) (omega arith)
+    one-is (reduceOf (start .args .kind) (start .args .packing)) (start .args .to) (start .args .w) (start .args .r0) (start .args .r1) (start .args .s .now) _ (omega arith) (omega arith)
     (c .before .before .narrow .ensures)
 
 whole-requires : tie.Need-whole-requires
@@ -27,7 +27,7 @@ same-length-2 c = search needs
 returns-2 : tie.Need-returns-2
 returns-2 c =
     let start = c .before .before .before .before .before .before in
-    wide-is (reduceOf (start .args .kind)) (start .args .to) (start .args .w) (start .args .r0) (start .args .r1) (start .args .s .now) _ (omega arith)
+    wide-is (reduceOf (start .args .kind) (start .args .packing)) (start .args .to) (start .args .w) (start .args .r0) (start .args .r1) (start .args .s .now) _ (omega arith)
     (c .before .before .whole .ensures)
 
 pub write-row-spec : {M : Type 1} → statement M
