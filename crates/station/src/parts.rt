@@ -28,15 +28,16 @@ pub extern "C" fn swathecold_generate_mipmaps(
     kind: u32,
     width: u32,
     height: u32,
+    mode: u32,
     texels: &mut [u32],
     written: &mut u64,
 ) -> u32
-    ensures number { λ r. ⌜ r ≡ filledNumber (chainAnswer kind width height (now (texels .entry))) ⌝ }
-    ensures writes { λ _. ⌜ now (written .exit) ≡ filledWritten (chainAnswer kind width height (now (texels .entry))) (now (written .entry)) ⌝ }
-    ensures leaves { λ _. ⌜ now (texels .exit) ≡ chainLeaves kind width height (now (texels .entry)) ⌝ }
+    ensures number { λ r. ⌜ r ≡ filledNumber (chainAnswer kind width height mode (now (texels .entry))) ⌝ }
+    ensures writes { λ _. ⌜ now (written .exit) ≡ filledWritten (chainAnswer kind width height mode (now (texels .entry))) (now (written .entry)) ⌝ }
+    ensures leaves { λ _. ⌜ now (texels .exit) ≡ chainLeaves kind width height mode (now (texels .entry)) ⌝ }
 {
     filled_out(
-        texture::generate_mipmaps(kind, width, height, texels),
+        texture::generate_mipmaps(kind, width, height, mode, texels),
         written,
     )
 }

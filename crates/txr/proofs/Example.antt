@@ -3,6 +3,7 @@ use mathlib.Core.Path.{_≡_, refl}
 use mathlib.Core.List.{List, [], _∷_}
 use Prim.Native.Nat.{ℕ}
 use lib.Ieee.{add, mul, div, ofBits, ofInt, toUnsigned}
+use Rattle.rules.specs.Packing.{packOf}
 use Rattle.rules.specs.Kinds.{facesOf, rgba}
 use Rattle.rules.specs.Sizes.{sideAt, halvings, log2, top, sizeAt, start, count}
 use Rattle.rules.specs.Levels.{tab, grid, texel, quad, next, chain}
@@ -27,5 +28,5 @@ listed =
     ∷ 0x31 ∷ 0x20 ∷ 0x31 ∷ 0x20 ∷ 0x31 ∷ 0x20 ∷ 0x37 ∷ 0x46 ∷ 0x37 ∷ 0x46 ∷ 0x30 ∷ 0x30 ∷ 0x46 ∷ 0x46 ∷ 0x0A ∷ []
 
 pub example-listed : listingOf example ≡ listed
-unfolding facesOf rgba sideAt halvings log2 top sizeAt start count tab grid texel quad next chain eachOf meanByte linearOf reduceOf chainOf _orElse_ kindRefusal sidesRefusal bufferRefusal pictureRefusal chainRefusal answer wordAt marked texelIn levelIn headerRefusal lengthRefusal fileRefusal digitOf digitsOf placesIn placesOf decimalOf hexOf fieldOf lineOf levelLine levelLines refusedLine listingOf add mul div ofBits ofInt toUnsigned
+unfolding facesOf rgba sideAt halvings log2 top sizeAt start count tab grid texel quad next chain eachOf packOf meanByte linearOf reduceOf chainOf _orElse_ kindRefusal sidesRefusal bufferRefusal pictureRefusal chainRefusal answer wordAt marked texelIn levelIn headerRefusal lengthRefusal fileRefusal digitOf digitsOf placesIn placesOf decimalOf hexOf fieldOf lineOf levelLine levelLines refusedLine listingOf add mul div ofBits ofInt toUnsigned
 example-listed = refl

@@ -9,6 +9,7 @@ use native.Mathlib.Numerals.{add-one}
 use native.Mathlib.Omega.{arith}
 use lib.ListN.{length, getD, take, drop, List·getD-append}
 use lib.Seq.{take-at}
+use Rattle.rules.specs.declared.Packing.the-variants.{Truncating}
 use Rattle.rules.specs.Kinds.{facesOf}
 use Rattle.rules.specs.Sizes.{sideAt, top, start, count}
 use Rattle.rules.specs.Levels.{tab, chain, filled}
@@ -20,6 +21,7 @@ use Rattle.rules.proofs.Grid.{length-tab}
 use Rattle.rules.proofs.Chain.{length-chain}
 use Rattle.rules.proofs.Sides.{side-le}
 use Rattle.rules.proofs.Bounds.{faces-some, faces-most, taken-top, level-end, size-some}
+use Rattle.rules.proofs.Truncating.{leaves-0}
 use Rattle.rules.proofs.Refusing.{chain-facts, chain-taken, answer-given, answer-refused}
 use Rattle.txr.specs.declared.Header.{Header}
 use Rattle.txr.specs.declared.Parsed.the-variants.{Picture, Refused}
@@ -110,9 +112,9 @@ lines-chain kind w h (suc n) l rest room le =
     omega (arith, level-end (facesOf kind) w h n (omega arith), size-some (facesOf kind) w h n (faces-some kind)) in
     rw (lines-chain kind w h n l rest room (omega arith), List·getD-append l rest 0 (start (facesOf kind) w h n) inside)
 
-length-made : (kind w h : ℕ) (l : List ℕ) → 0 < w → 0 < h → length l ≡ facesOf kind * h * w → count (facesOf kind) w h ≤ length (chainOf kind w h l)
+length-made : (kind w h : ℕ) (l : List ℕ) → 0 < w → 0 < h → length l ≡ facesOf kind * h * w → count (facesOf kind) w h ≤ length (chainOf kind Truncating w h l)
 unfolding chainOf count
-length-made kind w h l pw ph e = omega (arith, length-chain (reduceOf kind) (facesOf kind) (suc (top w h)) w h l pw ph e)
+length-made kind w h l pw ph e = omega (arith, length-chain (reduceOf kind Truncating) (facesOf kind) (suc (top w h)) w h l pw ph e)
 
 module _ (b : List ℕ) (taken : fileRefusal b ≡ 0) where
   pub level0-size : (length b - 10) / 4 ≡ sizeIn b
@@ -135,12 +137,12 @@ module _ (b : List ℕ) (taken : fileRefusal b ≡ 0) where
       unfolding levelIn
       level0-found = rw (written-front loaded, ← size) (take-at (tab n (texelIn b)) _ n (length-tab n (texelIn b)))
 
-      chain-found : chainLeaves (of .kind) (of .width) (of .height) made
-          ≡ chainOf (kindIn b) (widthIn b) (heightIn b) (levelIn b) ++ drop (count (facesOf (kindIn b)) (widthIn b) (heightIn b)) made
-      unfolding chainLeaves filledOf filled chainOf count
-      chain-found = answer-given _ _ _ (chain-asked (length made) long) ∙ rw (e, level0-found)
+      chain-found : chainLeaves (of .kind) (of .width) (of .height) 0 made
+          ≡ chainOf (kindIn b) Truncating (widthIn b) (heightIn b) (levelIn b) ++ drop (count (facesOf (kindIn b)) (widthIn b) (heightIn b)) made
+      unfolding filledOf filled chainOf count
+      chain-found = leaves-0 (of .kind) (of .width) (of .height) made ∙ answer-given _ _ _ (chain-asked (length made) long) ∙ rw (e, level0-found)
 
-      pub lines-found : (chain : List ℕ) → chain ≡ chainLeaves (of .kind) (of .width) (of .height) made
+      pub lines-found : (chain : List ℕ) → chain ≡ chainLeaves (of .kind) (of .width) (of .height) 0 made
           → levelLines (of .kind) (of .width) (of .height) chain (suc (top (of .width) (of .height))) ≡ listingOf b
       unfolding listingOf
       lines-found chain g =
@@ -149,7 +151,7 @@ module _ (b : List ℕ) (taken : fileRefusal b ≡ 0) where
           let h = heightIn b in
           let t = file-facts b taken .chained .taken in
           let room = length-made kind w h (levelIn b) (t .some-w) (t .some-h) level0-long in
-          rw (g, chain-found, e, lines-chain kind w h (suc (top w h)) (chainOf kind w h (levelIn b)) _ room (le-refl _)) (sym (answer-given _ _ _ taken))
+          rw (g, chain-found, e, lines-chain kind w h (suc (top w h)) (chainOf kind Truncating w h (levelIn b)) _ room (le-refl _)) (sym (answer-given _ _ _ taken))
 
 -- ---- what is written of a parsed file
 

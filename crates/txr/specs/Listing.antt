@@ -2,6 +2,7 @@
 use mathlib.Core.List.{List, [], _∷_, _++_}
 use Prim.Native.Nat.{ℕ, zero, suc}
 use lib.ListN.{getD}
+use Rattle.rules.specs.declared.Packing.the-variants.{Truncating}
 use Rattle.rules.specs.Kinds.{facesOf}
 use Rattle.rules.specs.Sizes.{sideAt, start, top}
 use Rattle.rules.specs.Pictures.{chainOf}
@@ -34,10 +35,10 @@ levelLines kind w h chain (suc n) = levelLines kind w h chain n ++ levelLine kin
 unfoldable pub refusedLine : ℕ → List ℕ
 refusedLine n = (0x72 ∷ 0x65 ∷ 0x66 ∷ 0x75 ∷ 0x73 ∷ 0x65 ∷ 0x64 ∷ 32 ∷ []) ++ (decimalOf n ++ newline)
 
--- one line a level, or `refused N`
+-- one line a level, truncating, or `refused N`
 unfoldable pub listingOf : List ℕ → List ℕ
 listingOf b =
     let kind = kindIn b in
     let w = widthIn b in
     let h = heightIn b in
-    answer (fileRefusal b) refusedLine (levelLines kind w h (chainOf kind w h (levelIn b)) (suc (top w h)))
+    answer (fileRefusal b) refusedLine (levelLines kind w h (chainOf kind Truncating w h (levelIn b)) (suc (top w h)))

@@ -53,14 +53,14 @@ fn level_lines(kind: u32, width: u32, height: u32, chain: &[u32], out: &mut [u8]
     at
 }
 
-// The levels of a file that is not refused: its chain is made, and listed.
+// The levels of a file that is not refused: its chain is made, truncating, and listed.
 fn list_levels(input: &[u8], of: Header, out: &mut [u8]) -> usize
     requires { ⌜ (fileRefusal (now input) ≡ 0) × (of ≡ headerIn (now input)) × (512 ≤ length (now out)) ⌝ }
     ensures { λ r. ⌜ Written 0 (now (out .entry)) (listingOf (now (input .entry))) r (now (out .exit)) ⌝ }
 {
     let mut chain = [0u32; 16384];
     load((input.len() - 10) / 4, input, &mut chain);
-    generate_mipmaps(of.kind, of.width, of.height, &mut chain);
+    generate_mipmaps(of.kind, of.width, of.height, 0, &mut chain);
     level_lines(of.kind, of.width, of.height, &chain, out)
 }
 
