@@ -24,3 +24,4 @@ pub mod Table
 pub mod Inverse
 pub mod Claims
 pub mod RoundedMeans
+pub mod Amid

@@ -13,16 +13,16 @@ use lib.Ieee.Positive.{positive, positive-finite}
 use Rattle.rules.specs.Floats.{Between, zero32, half32, one32, minus1, two32, four32, top32, unpackOf, meanOf, restOf}
 use Rattle.rules.specs.Reducing.{spreadOf, backOf, normalMean}
 use Rattle.rules.specs.Faces.{onFace}
-use Rattle.texel.proofs.Range.{in-add, in-sub, in-mul, in-div, neg-finite, div-self, div-neg-self}
+use Rattle.texel.proofs.Range.{Between-finite, in-add, in-sub, in-mul, in-div, neg-finite, div-self, div-neg-self}
 
 -- a range whose ends are written otherwise
 pub ends : {lo lo' x hi hi' : Float} → lo ≡ lo' → hi ≡ hi' → Between lo x hi → Between lo' x hi'
 ends {x = x} p q b = subst₂ (λ (l h : Float). Between l x h) p q b
 
 -- ---- a byte
-byte-in : (f : Format) (b k : ℕ) → b ≤ k → Between (ofInt f (pos 0)) (ofInt f (pos b)) (ofInt f (pos k))
+byte-in : (f : Format) (l b k : ℕ) → l ≤ b → b ≤ k → Between (ofInt f (pos l)) (ofInt f (pos b)) (ofInt f (pos k))
 unfolding ofInt
-byte-in f b k h = record { low = round-mono f 0 1 b 1 (zero-lt-suc 0) (zero-lt-suc 0) (mul-le-mul-right 1 zero-le); high = round-mono f b 1 k 1 (zero-lt-suc 0) (zero-lt-suc 0) (mul-le-mul-right 1 h) }
+byte-in f l b k h g = record { low = round-mono f l 1 b 1 (zero-lt-suc 0) (zero-lt-suc 0) (mul-le-mul-right 1 h); high = round-mono f b 1 k 1 (zero-lt-suc 0) (zero-lt-suc 0) (mul-le-mul-right 1 g) }
 
 c0 : div binary32 (ofInt binary32 (pos 0)) top32 ≡ zero32
 unfolding div ofInt ofBits
@@ -34,7 +34,15 @@ c1 = refl
 
 pub unpack-in : (b : ℕ) → b < 256 → Between zero32 (unpackOf b) one32
 unfolding ofInt ofBits
-unpack-in b h = ends c0 c1 (in-div binary32 (ofInt binary32 (pos 0)) (ofInt binary32 (pos b)) (ofInt binary32 (pos 255)) top32 tt tt tt (byte-in binary32 b 255 (omega arith)))
+unpack-in b h = ends c0 c1 (in-div binary32 (ofInt binary32 (pos 0)) (ofInt binary32 (pos b)) (ofInt binary32 (pos 255)) top32 tt tt tt (byte-in binary32 0 b 255 zero-le (omega arith)))
+
+-- bytes unpacked have the order of the bytes
+pub unpack-between : (l b k : ℕ) → l ≤ b → b ≤ k → k < 256 → Between (unpackOf l) (unpackOf b) (unpackOf k)
+unfolding ofBits
+unpack-between l b k h g few = in-div binary32 (ofInt binary32 (pos l)) (ofInt binary32 (pos b)) (ofInt binary32 (pos k)) top32 (held l (omega arith)) (held k few) tt (byte-in binary32 l b k h g)
+  where
+    held : (b : ℕ) → b < 256 → T (finite (ofInt binary32 (pos b)))
+    held b h = unfold ofInt in Between-finite (ofInt binary32 (pos 0)) (ofInt binary32 (pos b)) (ofInt binary32 (pos 255)) tt tt (byte-in binary32 0 b 255 zero-le (omega arith))
 
 pub unpacked-in : {r : Float} {b : ℕ} → r ≡ unpackOf b → b < 256 → Between zero32 r one32
 unpacked-in {r} {b} e h = rw e (unpack-in b h)
@@ -56,6 +64,23 @@ mean-from lo hi a b c d L H L2 H2 L3 H3 L4 H4 p q r s =
   where
     above : T (positive four32)
     above = unfold ofBits in tt
+
+-- of values from -1 to 1 no such sum is infinite
+finite-sums : (x : Float) → Between minus1 x one32
+    → T (finite x) × T (finite (add binary32 x x)) × T (finite (add binary32 (add binary32 x x) x)) × T (finite (sum4 x x x x))
+unfolding ofBits neg add
+finite-sums x b =
+    let two = in-add binary32 minus1 x one32 minus1 x one32 tt tt tt tt b b in
+    let three = in-add binary32 (add binary32 minus1 minus1) (add binary32 x x) (add binary32 one32 one32) minus1 x one32 tt tt tt tt two b in
+    let four = in-add binary32 (add binary32 (add binary32 minus1 minus1) minus1) (add binary32 (add binary32 x x) x) (add binary32 (add binary32 one32 one32) one32) minus1 x one32 tt tt tt tt three b in
+    (Between-finite minus1 x one32 tt tt b, Between-finite _ _ _ tt tt two, Between-finite _ _ _ tt tt three, Between-finite _ _ _ tt tt four)
+
+pub mean-between : (lo hi a b c d : Float) → Between minus1 lo one32 → Between minus1 hi one32
+    → Between lo a hi → Between lo b hi → Between lo c hi → Between lo d hi → Between (meanOf lo lo lo lo) (meanOf a b c d) (meanOf hi hi hi hi)
+mean-between lo hi a b c d L H =
+    let l = finite-sums lo L in
+    let h = finite-sums hi H in
+    mean-from lo hi a b c d (l .0) (h .0) (l .1) (h .1) (l .2) (h .2) (l .3) (h .3)
 
 n-low : meanOf minus1 minus1 minus1 minus1 ≡ minus1
 unfolding ofBits add div neg
@@ -107,12 +132,17 @@ s-high : sub binary32 (mul binary32 one32 two32) one32 ≡ one32
 unfolding ofBits mul sub neg
 s-high = refl
 
+doubled-in : (p : Float) → Between zero32 p one32 → Between (mul binary32 zero32 zero32) (mul binary32 p two32) (mul binary32 one32 two32)
+unfolding ofBits
+doubled-in p b = in-mul binary32 zero32 p one32 zero32 two32 two32 tt tt tt tt refl refl b zero-two
+
+pub double-finite : (p : Float) → Between zero32 p one32 → T (finite (mul binary32 p two32))
+unfolding ofBits mul
+double-finite p b = Between-finite (mul binary32 zero32 zero32) (mul binary32 p two32) (mul binary32 one32 two32) tt tt (doubled-in p b)
+
 pub spread-in : (p : Float) → Between zero32 p one32 → Between minus1 (spreadOf p) one32
 unfolding ofBits mul
-spread-in p b =
-    ends s-low s-high
-    (in-sub binary32 (mul binary32 zero32 zero32) (mul binary32 p two32) (mul binary32 one32 two32) one32 one32 one32 tt tt tt tt
-    (in-mul binary32 zero32 p one32 zero32 two32 two32 tt tt tt tt refl refl b zero-two) one-in)
+spread-in p b = ends s-low s-high (in-sub binary32 (mul binary32 zero32 zero32) (mul binary32 p two32) (mul binary32 one32 two32) one32 one32 one32 tt tt tt tt (doubled-in p b) one-in)
 
 b-low : backOf minus1 ≡ zero32
 unfolding ofBits add div neg
@@ -122,15 +152,27 @@ b-high : backOf one32 ≡ one32
 unfolding ofBits add div
 b-high = refl
 
+pub back-between : (lo m hi : Float) → Between minus1 lo one32 → Between minus1 hi one32 → Between lo m hi → Between (backOf lo) (backOf m) (backOf hi)
+unfolding ofBits
+back-between lo m hi L H b =
+    let l = held lo L in
+    let h = held hi H in
+    in-div binary32 (add binary32 lo one32) (add binary32 m one32) (add binary32 hi one32) two32 (l .1) (h .1) tt (in-add binary32 lo m hi one32 one32 one32 (l .0) (h .0) tt tt b one-in)
+  where
+    held : (x : Float) → Between minus1 x one32 → T (finite x) × T (finite (add binary32 x one32))
+    held x b = unfold add neg in (Between-finite minus1 x one32 tt tt b, Between-finite _ _ _ tt tt (in-add binary32 minus1 x one32 one32 one32 one32 tt tt tt tt b one-in))
+
 pub back-in : (m : Float) → Between minus1 m one32 → Between zero32 (backOf m) one32
 unfolding ofBits add neg
 back-in m b = ends b-low b-high (in-div binary32 (add binary32 minus1 one32) (add binary32 m one32) (add binary32 one32 one32) two32 tt tt tt (in-add binary32 minus1 m one32 one32 one32 one32 tt tt tt tt b one-in))
 
-pub normal-in : (a b c d : Float) → Between zero32 a one32 → Between zero32 b one32 → Between zero32 c one32 → Between zero32 d one32 → Between zero32 (normalMean a b c d) one32
-unfolding ofBits add neg
-normal-in a b c d p q r s =
-    back-in (meanOf (spreadOf a) (spreadOf b) (spreadOf c) (spreadOf d))
-    (ends n-low m-high (mean-from minus1 one32 (spreadOf a) (spreadOf b) (spreadOf c) (spreadOf d) tt tt tt tt tt tt tt tt (spread-in a p) (spread-in b q) (spread-in c r) (spread-in d s)))
+module _ (a b c d : Float) (p : Between zero32 a one32) (q : Between zero32 b one32) (r : Between zero32 c one32) (s : Between zero32 d one32) where
+  pub spread-mean-in : Between minus1 (meanOf (spreadOf a) (spreadOf b) (spreadOf c) (spreadOf d)) one32
+  unfolding ofBits add neg
+  spread-mean-in = ends n-low m-high (mean-from minus1 one32 (spreadOf a) (spreadOf b) (spreadOf c) (spreadOf d) tt tt tt tt tt tt tt tt (spread-in a p) (spread-in b q) (spread-in c r) (spread-in d s))
+
+  pub normal-in : Between zero32 (normalMean a b c d) one32
+  normal-in = back-in (meanOf (spreadOf a) (spreadOf b) (spreadOf c) (spreadOf d)) spread-mean-in
 
 -- ---- a weight: 1 - weight, and the product of two
 w-low : sub binary32 one32 one32 ≡ zero32
