@@ -17,10 +17,10 @@ pub record Words (q : Quad) : Type 0 where
   pub third : q .p01 < 4294967296
   pub fourth : q .p11 < 4294967296
 
-red-byte : (t : ℕ) → t < 4294967296 → redOf t < 256
+pub red-byte : (t : ℕ) → t < 4294967296 → redOf t < 256
 red-byte t h = omega arith
 
-low-byte : (t : ℕ) → alphaOf t < 256
+pub low-byte : (t : ℕ) → alphaOf t < 256
 low-byte t = omega arith
 
 -- two sums in the halves of a number
