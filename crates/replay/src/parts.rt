@@ -29,13 +29,14 @@ pub fn level_sizes_agrees(record: &Record) -> bool {
     agrees(record, refusal, &words, 0)
 }
 
-// Call 1.
+// Call 1; its mode is the last of the words for arguments.
 pub fn generate_mipmaps_agrees(record: &Record, texels: &mut [u32]) -> bool {
     let mut written = 0u64;
     let refusal = parts::swathecold_generate_mipmaps(
         record[2],
         record[3],
         record[4],
+        record[21],
         texels,
         &mut written,
     );

@@ -24,8 +24,8 @@ moved-mono h a b c d B D l = div-mono (2 * a + h * b) (2 * b) (2 * c + h * d) (2
   where
     crossed : 2 * a * (2 * d) + h * b * (2 * d) ≤ 2 * c * (2 * b) + h * d * (2 * b)
     crossed =
-        let x : 2 * a * (2 * d) ≡ 2 * (2 * (a * d)) = simp (mul-assoc, mul-comm, mul-left-comm) in
-        let y : 2 * c * (2 * b) ≡ 2 * (2 * (c * b)) = simp (mul-assoc, mul-comm, mul-left-comm) in
+        let x : 2 * a * (2 * d) ≡ 2 * (2 * (a * d)) = simp (mul-assoc, mul-left-comm) in
+        let y : 2 * c * (2 * b) ≡ 2 * (2 * (c * b)) = simp (mul-assoc, mul-left-comm) in
         let z : h * b * (2 * d) ≡ h * d * (2 * b) = simp (mul-assoc, mul-comm, mul-left-comm) in
         omega arith
 
