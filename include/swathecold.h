@@ -4,14 +4,15 @@
  * nothing, neither to a lent buffer nor to an out parameter.
  *
  * A lent slice is a pointer and its length in entries; float x[4] is a pointer to four of them. Every number is taken:
- * unknown kinds, codes, levels, faces, NaNs and infinities are refused, not undefined. What must hold on the C side is what C
+ * unknown kinds, modes, codes, levels, faces, NaNs and infinities are refused, not undefined. What must hold on the C side is what C
  * cannot say: a pointer points to as many entries as its length or its array says, and no two of the lent things overlap.
  *
  * kind:    0 SRGB, 1 Normal, 2 MetallicRoughness, 3 Cubemap, 4 Linear
  * texel:   32 bits, red in the top byte, then green, blue, alpha
+ * mode:    how a reduced channel becomes a byte again: 0 truncating, 1 nearest, a half upward
  * wrap:    10497 Repeat, 33071 ClampToEdge, 33648 MirroredRepeat, 0 not given: Repeat, glTF 2.0's default
  * refused: 1 kind, 2 side, 3 buffer too short, 4 wrap code, 5 coordinate, step or fractional level, 6 level, 7 direction,
- *          8 kind or face that the call does not take, 10 cross, 11 cut, 14 place outside the picture;
+ *          8 kind or face that the call does not take, 10 cross, 11 cut, 14 place outside the picture, 15 mode;
  *          9 is retired: no call gives it, and the number is never used again
  */
 #ifndef SWATHECOLD_H
@@ -27,8 +28,10 @@ extern "C" {
 /* Where a level starts, its width, its height, and how many texels the whole chain has, into sizes[0..3]. */
 uint32_t swathecold_level_sizes(uint32_t kind, uint32_t width, uint32_t height, uint32_t level, uint64_t sizes[4]);
 
-/* Level 0 stands in texels; fills the levels behind it. *written: how many texels the whole chain has. */
-uint32_t swathecold_generate_mipmaps(uint32_t kind, uint32_t width, uint32_t height,
+/* Level 0 stands in texels; fills the levels behind it. *written: how many texels the whole chain has. Of SRGB only alpha follows the
+ * mode, of MetallicRoughness green and blue, of the other kinds every channel. A level is reduced further by the mode that it was made
+ * in: nothing in its texels says which one that was. */
+uint32_t swathecold_generate_mipmaps(uint32_t kind, uint32_t width, uint32_t height, uint32_t mode,
                                      uint32_t *texels, size_t texels_len, uint64_t *written);
 
 /* The six faces of a cross of width * height RGBA pixels, one behind the other. *written: how many texels that is. */

@@ -1,6 +1,7 @@
 /* instructions CALL CODE COUNT: makes so many calls of a lookup with a wrap code, each with drawn arguments of its own that the unit takes.
  * They are the same on every run. tools/instructions counts what the calls execute.
- * instructions generate_mipmaps KIND COUNT WIDTH HEIGHT: so many chains of drawn texels. CALL may be nothing: arguments are drawn, and no call is made. */
+ * instructions generate_mipmaps KIND COUNT WIDTH HEIGHT MODE: so many chains of drawn texels. CALL may be nothing: arguments are drawn, and no call
+ * is made. */
 #include <stdint.h>
 #include <stdio.h>
 #include <stdlib.h>
@@ -13,6 +14,11 @@ enum { TEXELS = 6 * (4 * 256 * 256 - 1) / 3, TOP = 8 };
 #define FLAT 4, 512, 512, texels, TEXELS
 #define CUBE 3, 256, 256, texels, TEXELS
 static uint32_t texels[TEXELS];
+
+/* The picture that chains are made of, and the mode. */
+struct chain {
+    uint32_t width, height, mode;
+};
 
 struct arguments {
     float u[4], v[4], steps[4], x[4], y[4], z[4], fractions[4];
@@ -76,7 +82,7 @@ static int which(const char *name) {
 }
 
 /* The call's refusal number, or 0. */
-static uint32_t call(int at, uint32_t code, uint32_t width, uint32_t height, const struct arguments *a) {
+static uint32_t call(int at, uint32_t code, struct chain of, const struct arguments *a) {
     static const uint32_t no_faces[4];
     static uint32_t numbers[4];
     static uint64_t written;
@@ -91,22 +97,23 @@ static uint32_t call(int at, uint32_t code, uint32_t width, uint32_t height, con
     case CUBE_UV: return swathecold_cubemap_uv_from_normal(a->x, a->y, a->z, lanes, numbers);
     case CUBE_RGB: return swathecold_sample_cubemap_rgb(CUBE, a->x, a->y, a->z, a->levels, lanes);
     case TRILINEAR_RGB: return swathecold_sample_cubemap_trilinear_rgb(CUBE, a->x, a->y, a->z, a->fractions, lanes);
-    default: return swathecold_generate_mipmaps(code, width, height, texels, TEXELS, &written);
+    default: return swathecold_generate_mipmaps(code, of.width, of.height, of.mode, texels, TEXELS, &written);
     }
 }
 
 int main(int count, char **words) {
     int at = count > 3 ? which(words[1]) : CALLS;
-    if (at == CALLS || count != (at == CHAIN ? 6 : 4)) {
-        fputs("instructions: give CALL CODE COUNT, or generate_mipmaps KIND COUNT WIDTH HEIGHT\n", stderr);
+    if (at == CALLS || count != (at == CHAIN ? 7 : 4)) {
+        fputs("instructions: give CALL CODE COUNT, or generate_mipmaps KIND COUNT WIDTH HEIGHT MODE\n", stderr);
         return 1;
     }
-    uint32_t code = (uint32_t)atol(words[2]), width = 0, height = 0;
-    if (at == CHAIN) width = (uint32_t)atol(words[4]), height = (uint32_t)atol(words[5]);
+    uint32_t code = (uint32_t)atol(words[2]);
+    struct chain of = {0, 0, 0};
+    if (at == CHAIN) of = (struct chain){(uint32_t)atol(words[4]), (uint32_t)atol(words[5]), (uint32_t)atol(words[6])};
     for (int i = 0; i < TEXELS; i++) texels[i] = (uint32_t)next();
     for (long left = atol(words[3]); left > 0; left--) {
         struct arguments a = drawn();
-        uint32_t refused = call(at, code, width, height, &a);
+        uint32_t refused = call(at, code, of, &a);
         if (refused) {
             fprintf(stderr, "instructions: %s: refused %u\n", words[1], refused);
             return 1;

@@ -1,5 +1,5 @@
 /* Links the archive by its header and calls every name in it: document 01's reference items, the edges of levels, document 02's
- * ranges and light, a refusal of each call, and that a refusal writes nothing. Prints how many checks held; answers 1 at the first
+ * packing, ranges and light, a refusal of each call, and that a refusal writes nothing. Prints how many checks held; answers 1 at the first
  * that does not. */
 #include <math.h>
 #include <stdint.h>
@@ -10,6 +10,7 @@
 #include "swathecold.h"
 
 enum { SRGB, NORMAL, METALLIC_ROUGHNESS, CUBEMAP, LINEAR };
+enum { TRUNCATING, NEAREST };
 enum { NOT_GIVEN = 0, REPEAT = 10497, CLAMP = 33071, MIRRORED = 33648 };
 #define CANARY 0xC0FFEE11u
 #define LEN(a) (sizeof(a) / sizeof *(a))
@@ -30,15 +31,58 @@ static void sizes_and_chain(void) {
     expect(swathecold_level_sizes(LINEAR, 4097, 1, 0, s) == 2 && s[0] == 15, "4097: refusal 2, nothing written");
     expect(swathecold_level_sizes(CUBEMAP, 2, 2, 1, s) == 0 && s[0] == 24 && s[3] == 30, "a cubemap 2 by 2: level 1 at 24 of 30");
     uint32_t linear[] = {0x00FF00FF, 0xFF0000FF, CANARY, CANARY};
-    expect(swathecold_generate_mipmaps(LINEAR, 2, 1, linear, LEN(linear), &written) == 0 && written == 3 && linear[2] == 0x7F7F00FF && linear[3] == CANARY, "Linear 00FF00FF, FF0000FF: 7F7F00FF");
+    expect(swathecold_generate_mipmaps(LINEAR, 2, 1, TRUNCATING, linear, LEN(linear), &written) == 0 && written == 3 && linear[2] == 0x7F7F00FF && linear[3] == CANARY, "Linear 00FF00FF, FF0000FF: 7F7F00FF");
     uint32_t rough[] = {0x11FF0022, 0x3300FF44, CANARY};
-    expect(swathecold_generate_mipmaps(METALLIC_ROUGHNESS, 2, 1, rough, 3, &written) == 0 && rough[2] == 0x11B47F22, "MetallicRoughness: 11B47F22");
+    expect(swathecold_generate_mipmaps(METALLIC_ROUGHNESS, 2, 1, TRUNCATING, rough, 3, &written) == 0 && rough[2] == 0x11B47F22, "MetallicRoughness: 11B47F22");
     uint32_t srgb[] = {0xFF0000FF, 0x000000FF, CANARY};
-    expect(swathecold_generate_mipmaps(SRGB, 2, 1, srgb, 3, &written) == 0 && srgb[2] == 0xBB0000FF, "SRGB: BB0000FF");
+    expect(swathecold_generate_mipmaps(SRGB, 2, 1, TRUNCATING, srgb, 3, &written) == 0 && srgb[2] == 0xBB0000FF, "SRGB: BB0000FF");
     uint32_t normal[] = {0x01FF80FF, 0x01FF80FF, CANARY};
     written = 7;
-    expect(swathecold_generate_mipmaps(NORMAL, 2, 1, normal, 2, &written) == 3 && written == 7 && normal[2] == CANARY, "one short: refusal 3, nothing written");
-    expect(swathecold_generate_mipmaps(NORMAL, 2, 1, normal, 3, &written) == 0 && normal[2] == 0x00FF80FF, "Normal 01FF80FF twice: 00FF80FF");
+    expect(swathecold_generate_mipmaps(NORMAL, 2, 1, TRUNCATING, normal, 2, &written) == 3 && written == 7 && normal[2] == CANARY, "one short: refusal 3, nothing written");
+    expect(swathecold_generate_mipmaps(NORMAL, 2, 1, TRUNCATING, normal, 3, &written) == 0 && normal[2] == 0x00FF80FF, "Normal 01FF80FF twice: 00FF80FF");
+}
+
+/* Level 1 of a square of four texels; CANARY where the call refuses, counts otherwise or writes anywhere else. */
+static uint32_t reduced(uint32_t kind, uint32_t mode, uint32_t p00, uint32_t p10, uint32_t p01, uint32_t p11) {
+    uint32_t texels[] = {p00, p10, p01, p11, 0, CANARY};
+    uint64_t written = 7;
+    int made = swathecold_generate_mipmaps(kind, 2, 2, mode, texels, LEN(texels), &written) == 0 && written == 5;
+    int kept = texels[0] == p00 && texels[1] == p10 && texels[2] == p01 && texels[3] == p11 && texels[5] == CANARY;
+    return made && kept ? texels[4] : CANARY;
+}
+
+static void packing(void) {
+    const uint32_t ones = 0x01010101;
+    uint32_t linear[] = {0x00FF00FF, 0xFF0000FF, CANARY, CANARY}, rough[] = {0x11FF0022, 0x3300FF44, CANARY};
+    uint32_t normal[] = {0x01FF80FF, 0x01FF80FF, CANARY}, row[] = {0, 0x01000001, 0x01000001, 0x02000002, CANARY, CANARY, CANARY, CANARY};
+    uint64_t written = 7;
+    expect(swathecold_generate_mipmaps(LINEAR, 2, 1, NEAREST, linear, LEN(linear), &written) == 0 && written == 3 && linear[2] == 0x808000FF && linear[3] == CANARY, "nearest: Linear 00FF00FF, FF0000FF: 808000FF");
+    expect(swathecold_generate_mipmaps(NORMAL, 2, 1, NEAREST, normal, 3, &written) == 0 && normal[2] == 0x01FF80FF, "nearest: Normal 01FF80FF twice: 01FF80FF");
+    expect(swathecold_generate_mipmaps(METALLIC_ROUGHNESS, 2, 1, NEAREST, rough, 3, &written) == 0 && rough[2] == 0x11B48022, "nearest: MetallicRoughness: 11B48022");
+    expect(swathecold_generate_mipmaps(LINEAR, 4, 1, NEAREST, row, LEN(row), &written) == 0 && written == 7 && row[4] == 0x01000001 && row[5] == 0x02000002 && row[6] == 0x02000002 && row[7] == CANARY, "nearest at every level: 0, 1, 1, 2 give 1, 2 and then 2");
+    expect(reduced(SRGB, TRUNCATING, 0xFF000000, 0x00FF0001, 0xFF000001, 0x00FF0000) == 0xBBBB0000, "SRGB, truncating: alpha 1/2 is 0");
+    expect(reduced(SRGB, NEAREST, 0xFF000000, 0x00FF0001, 0xFF000001, 0x00FF0000) == 0xBBBB0001, "SRGB, nearest: only alpha 1/2 is 1");
+    expect(reduced(METALLIC_ROUGHNESS, NEAREST, 0x07000009, 0x08010108, 0x08000108, 0x08000008) == 0x07010109, "nearest: red and alpha of the first texel; the root of 1/4 and the mean 1/2 are 1");
+    expect(reduced(NORMAL, NEAREST, 0x02000001, 0x00020001, 0x00000200, 0x00000000) == 0, "nearest: Normal 0, 0, 0, 2: a product just below a half");
+    for (uint32_t k = 0; k < 255; k++) {
+        uint32_t below = k * ones, above = below + ones;
+        expect(reduced(LINEAR, NEAREST, below, above, above, below) == above && reduced(LINEAR, NEAREST, below, below, above, below) == below, "nearest: k + 1/2 is k + 1, k + 1/4 is k");
+    }
+}
+
+static void packing_refused(void) {
+    const uint32_t unknown[] = {2, 3, 255, 256, 0x80000000u, UINT32_MAX}, old[4] = {0x00FF00FF, 0xFF0000FF, CANARY, CANARY};
+    uint32_t texels[4];
+    uint64_t written = 7;
+    memcpy(texels, old, sizeof old);
+    for (size_t i = 0; i < LEN(unknown); i++) {
+        expect(swathecold_generate_mipmaps(LINEAR, 2, 1, unknown[i], texels, 3, &written) == 15, "an unknown mode: refusal 15");
+        expect(swathecold_generate_mipmaps(LINEAR, 2, 1, unknown[i], texels, 2, &written) == 3, "one short: 3 before 15");
+        expect(swathecold_generate_mipmaps(LINEAR, 2, 4097, unknown[i], texels, 3, &written) == 2, "side 4097: 2 before 15");
+        expect(swathecold_generate_mipmaps(5, 2, 1, unknown[i], texels, 3, &written) == 1, "kind 5: 1 before 15");
+    }
+    expect(swathecold_generate_mipmaps(LINEAR, 2, 1, NEAREST, texels, 2, &written) == 3, "nearest, one short: refusal 3");
+    expect(written == 7 && !memcmp(texels, old, sizeof old), "none of them wrote anything");
 }
 
 static void parts(void) {
@@ -66,7 +110,7 @@ static void flat_lookups(void) {
     uint64_t written;
     expect(swathecold_compute_mip_level(64, 64, sixteenth, &level) == 0 && level == 2, "64 by 64, steps of 1/16: level 2");
     expect(swathecold_compute_mip_level(64, 64, lost, &level) == 5 && level == 2, "a step that is no number: refusal 5");
-    expect(swathecold_generate_mipmaps(LINEAR, 4, 1, texels, 7, &written) == 0 && written == 7, "a chain of 7");
+    expect(swathecold_generate_mipmaps(LINEAR, 4, 1, TRUNCATING, texels, 7, &written) == 0 && written == 7, "a chain of 7");
     expect(swathecold_sample4_rgb(LINEAR, 4, 1, texels, 7, REPEAT, CLAMP, u, v, still, rgb) == 0 && rgb[0] == 1.0f && rgb[1] == 0.0f && rgb[2] == 0.2f && rgb[3] == 0.0f, "Repeat: texels 3, 0, 1, 0");
     expect(swathecold_sample4_alpha(LINEAR, 4, 1, texels, 7, CLAMP, NOT_GIVEN, u, v, still, alpha) == 0 && alpha[0] == 0.0f && alpha[3] == 1.0f, "Clamp: texels 0 and 3 at the ends");
     memset(rgb, 0, sizeof rgb);
@@ -139,7 +183,7 @@ static void cubemaps(void) {
     expect(swathecold_cubemap_uv_from_normal(x, y, z, uv, faces) == 0 && faces[0] == 0 && uv[0] == 0.0f && uv[4] == 0.0f, "(1,1,1): face 0, (0, 0)");
     expect(faces[1] == 2 && uv[1] == 0.5f && uv[5] == 0.75f && faces[2] == 5 && uv[2] == 0.5f && uv[6] == 0.5f, "(0,2,1): face 2; (-0,0,-1): face 5");
     expect(swathecold_cubemap_uv_from_normal(none, none + 0, none, uv, faces) == 7 && faces[0] == 0, "(0,0,0): refusal 7");
-    expect(swathecold_generate_mipmaps(CUBEMAP, 2, 2, texels, 30, &written) == 0 && written == 30, "a cubemap's chain of 30");
+    expect(swathecold_generate_mipmaps(CUBEMAP, 2, 2, TRUNCATING, texels, 30, &written) == 0 && written == 30, "a cubemap's chain of 30");
     expect(swathecold_sample_cubemap_rgb(CUBEMAP, 2, 2, texels, 30, x, y, z, tops, rgb) == 0 && rgb[0] == 0.0f && rgb[1] == 0.4f && rgb[2] == 1.0f, "each face has its own colour");
     expect(swathecold_sample_cubemap_rgb(LINEAR, 2, 2, texels, 30, x, y, z, tops, rgb) == 8, "a picture that is no cubemap: refusal 8");
     expect(swathecold_sample_cubemap_trilinear_rgb(CUBEMAP, 2, 2, texels, 30, x, y, z, levels, rgb) == 0 && rgb[2] == 1.0f && rgb[1] == 0.4f, "between two levels of one colour");
@@ -292,6 +336,8 @@ static void light_refused(void) {
 
 int main(void) {
     sizes_and_chain();
+    packing();
+    packing_refused();
     parts();
     flat_lookups();
     edges();

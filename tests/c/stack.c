@@ -1,6 +1,6 @@
-/* How deep the stack of a chain call goes, by kind. The call runs on a stack of its own that was painted beforehand: what is no longer
- * painted was used. The pictures have 13 levels, the most there are, one far wider than high, one far higher than wide. Prints the
- * depth of each kind in bytes; answers 1 where one goes past its limit. */
+/* How deep the stack of a chain call goes, by kind and mode. The call runs on a stack of its own that was painted beforehand: what is no longer
+ * painted was used. The pictures have 13 levels, the most there are, one far wider than high, one far higher than wide. Prints each
+ * depth in bytes; answers 1 where one goes past its kind's limit. */
 #define _XOPEN_SOURCE 700
 #include <stdint.h>
 #include <stdio.h>
@@ -18,15 +18,17 @@ static const struct {
     size_t limit;
 } kinds[] = {{"SRGB", SRGB}, {"Normal", WITHOUT_TABLE}, {"MetallicRoughness", WITHOUT_TABLE}, {"Cubemap", WITHOUT_TABLE}, {"Linear", WITHOUT_TABLE}};
 
+static const char *const modes[] = {"truncating", "nearest"};
+
 static ucontext_t here, there;
 static unsigned char stack[ROOM];
-static uint32_t texels[TEXELS], kind, width, height, refused;
+static uint32_t texels[TEXELS], kind, mode, width, height, refused;
 
 static void nothing(void) {}
 
 static void chain(void) {
     uint64_t written;
-    refused = swathecold_generate_mipmaps(kind, width, height, texels, TEXELS, &written);
+    refused = swathecold_generate_mipmaps(kind, width, height, mode, texels, TEXELS, &written);
 }
 
 static size_t used(void (*work)(void)) {
@@ -54,10 +56,11 @@ static size_t depth(uint32_t w, uint32_t h) {
 
 int main(void) {
     int past = 0;
-    for (kind = 0; kind < sizeof kinds / sizeof *kinds; kind++) {
-        size_t wide = depth(LONG, SHORT), high = depth(SHORT, LONG), deepest = wide > high ? wide : high;
-        printf("stack of a chain call, %s: %zu bytes, limit %zu\n", kinds[kind].name, deepest, kinds[kind].limit);
-        past |= deepest > kinds[kind].limit;
-    }
+    for (mode = 0; mode < sizeof modes / sizeof *modes; mode++)
+        for (kind = 0; kind < sizeof kinds / sizeof *kinds; kind++) {
+            size_t wide = depth(LONG, SHORT), high = depth(SHORT, LONG), deepest = wide > high ? wide : high;
+            printf("stack of a chain call, %s, %s: %zu bytes, limit %zu\n", kinds[kind].name, modes[mode], deepest, kinds[kind].limit);
+            past |= deepest > kinds[kind].limit;
+        }
     return past;
 }
