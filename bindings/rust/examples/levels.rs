@@ -12,8 +12,9 @@ fn main() -> Result<(), Refusal> {
     }
     let saved = picture.reopen(2)?;
     println!(
-        "reopened after {} reductions; its level 1 is level 3: {}",
+        "reopened after {} reductions, {:?} as before; its level 1 is level 3: {}",
         saved.reductions(),
+        saved.packing(),
         saved.level(1)? == picture.level(3)?
     );
     Ok(())

@@ -6,6 +6,7 @@ extern "C" {
         kind: u32,
         width: u32,
         height: u32,
+        mode: u32,
         texels: *mut u32,
         len: usize,
         written: *mut u64,

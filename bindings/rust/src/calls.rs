@@ -29,20 +29,26 @@ pub fn level_sizes(kind: impl Into<u32>, width: u32, height: u32, level: u32) ->
     Ok(LevelSizes { start: start as usize, width: width as u32, height: height as u32, total: total as usize })
 }
 
-/// Level 0 stands in `texels`; fills the levels behind it and answers how many texels the chain has. Entries past them stay.
-/// Refusals: 1, 2, 3.
+/// Level 0 stands in `texels`; fills the levels behind it and answers how many texels the chain has. Entries past them stay. A level
+/// that is reduced further goes on by the [`Packing`](crate::Packing) that it was made by. Refusals: 1, 2, 3, 15.
 ///
 /// ```
-/// use swathecold::{generate_mipmaps, TextureType};
+/// use swathecold::{generate_mipmaps, Packing, TextureType};
 /// let mut texels = [0xFF0000FF, 0x000000FF, 0];
-/// assert_eq!(generate_mipmaps(TextureType::SRGB, 2, 1, &mut texels)?, 3);
+/// assert_eq!(generate_mipmaps(TextureType::SRGB, 2, 1, Packing::Truncating, &mut texels)?, 3);
 /// assert_eq!(texels[2], 0xBB0000FF);
 /// # Ok::<(), swathecold::Refusal>(())
 /// ```
-pub fn generate_mipmaps(kind: impl Into<u32>, width: u32, height: u32, texels: &mut [u32]) -> Result<usize, Refusal> {
+pub fn generate_mipmaps(
+    kind: impl Into<u32>,
+    width: u32,
+    height: u32,
+    packing: impl Into<u32>,
+    texels: &mut [u32],
+) -> Result<usize, Refusal> {
     let mut written = 0;
     let (at, len) = (texels.as_mut_ptr(), texels.len());
-    Refusal::of(unsafe { c::swathecold_generate_mipmaps(kind.into(), width, height, at, len, &mut written) })?;
+    Refusal::of(unsafe { c::swathecold_generate_mipmaps(kind.into(), width, height, packing.into(), at, len, &mut written) })?;
     Ok(written as usize)
 }
 

@@ -1,8 +1,8 @@
 //! The texture unit of a viewing station: reducing pictures, cutting them, and looking colours up in them.
 //!
 //! The work is done by a library that is proved, call by call, against a paper of rules. This crate gives it Rust's types: slices
-//! for buffers, [`Refusal`] for the numbers, [`Picture`] for a chain that the unit made itself, [`Ranges`] for the smallest and
-//! largest values of a picture's tiles, [`IrradianceSh4`] for the light of a cubemap.
+//! for buffers, [`Refusal`] for the numbers, [`Picture`] for a chain that the unit made itself, [`Packing`] for how its bytes are
+//! rounded, [`Ranges`] for the smallest and largest values of a picture's tiles, [`IrradianceSh4`] for the light of a cubemap.
 //!
 //! ```
 //! use swathecold::{Picture, TextureType};
@@ -32,4 +32,4 @@ pub use irradiance::IrradianceSh4;
 pub use picture::Picture;
 pub use ranges::{Ranges, Tile};
 pub use refusal::Refusal;
-pub use types::{CubemapUv, Cut, Lanes, LevelSizes, Sampler, TextureType, Vec3x4, WrapMode};
+pub use types::{CubemapUv, Cut, Lanes, LevelSizes, Packing, Sampler, TextureType, Vec3x4, WrapMode};

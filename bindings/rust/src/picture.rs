@@ -4,10 +4,11 @@ use crate::calls;
 use crate::irradiance::IrradianceSh4;
 use crate::ranges::Ranges;
 use crate::refusal::Refusal;
-use crate::types::{Cut, Lanes, LevelSizes, Sampler, TextureType, Vec3x4};
+use crate::types::{Cut, Lanes, LevelSizes, Packing, Sampler, TextureType, Vec3x4};
 
 /// A picture with all its levels. It holds its chain to itself, so the levels are always those that the unit made of its level 0,
-/// and it says how often that level 0 was reduced since it was brought in.
+/// and it says how often that level 0 was reduced since it was brought in, and by which packing. Pictures that are made of it keep
+/// that packing, so no chain has levels of both.
 ///
 /// ```
 /// use swathecold::{Picture, TextureType};
@@ -25,13 +26,43 @@ pub struct Picture {
     texture_type: TextureType,
     width: u32,
     height: u32,
+    packing: Packing,
     reductions: u32,
     texels: Vec<u32>,
 }
 
 impl Picture {
-    /// The picture whose level 0 begins `level0`, row by row; a cubemap's six faces one behind the other. Refusals: 1, 2, 3.
+    /// The picture whose level 0 begins `level0`, row by row; a cubemap's six faces one behind the other. Its levels are truncated.
+    /// Refusals: 1, 2, 3.
     pub fn new(texture_type: TextureType, width: u32, height: u32, level0: &[u32]) -> Result<Picture, Refusal> {
+        Picture::with_packing(texture_type, width, height, Packing::Truncating, level0)
+    }
+
+    /// The same with levels by the packing that is named. A level 0 that is itself a reduced level, from a file, goes on by the
+    /// packing that it was made by. Refusals: as of `new`.
+    ///
+    /// ```
+    /// use swathecold::{Packing, Picture, TextureType};
+    /// let grain: Vec<u32> = (0..64u32).map(|i| (i * i) << 16 | 0xFF).collect();
+    /// let picture = Picture::with_packing(TextureType::Linear, 8, 8, Packing::Nearest, &grain)?;
+    ///
+    /// // a level reopened goes on as it was made
+    /// let again = picture.reopen(1)?;
+    /// assert_eq!(again.packing(), Packing::Nearest);
+    /// assert_eq!(again.level(2)?, picture.level(3)?);
+    ///
+    /// // saved without its packing and opened by the other it is another picture
+    /// let mixed = Picture::new(TextureType::Linear, 4, 4, picture.level(1)?)?;
+    /// assert_ne!(mixed.level(2)?, picture.level(3)?);
+    /// # Ok::<(), swathecold::Refusal>(())
+    /// ```
+    pub fn with_packing(
+        texture_type: TextureType,
+        width: u32,
+        height: u32,
+        packing: Packing,
+        level0: &[u32],
+    ) -> Result<Picture, Refusal> {
         let LevelSizes { total, .. } = calls::level_sizes(texture_type, width, height, 0)?;
         let faces = if texture_type == TextureType::Cubemap { 6 } else { 1 };
         let first = faces * width as usize * height as usize;
@@ -42,34 +73,36 @@ impl Picture {
         let mut texels = Vec::with_capacity(total);
         texels.extend_from_slice(&level0[..first]);
         texels.resize(total, 0);
-        calls::generate_mipmaps(texture_type, width, height, &mut texels)?;
-        Ok(Picture { texture_type, width, height, reductions: 0, texels })
+        calls::generate_mipmaps(texture_type, width, height, packing, &mut texels)?;
+        Ok(Picture { texture_type, width, height, packing, reductions: 0, texels })
     }
 
-    /// The picture of a level 0 that was reduced this often. Refusals: as of `new`.
+    /// The picture of a level 0 that was reduced this often, all by one packing. Refusals: as of `new`.
     pub(crate) fn reduced(
         reductions: u32,
         texture_type: TextureType,
         width: u32,
         height: u32,
+        packing: Packing,
         level0: &[u32],
     ) -> Result<Picture, Refusal> {
-        Ok(Picture { reductions, ..Picture::new(texture_type, width, height, level0)? })
+        Ok(Picture { reductions, ..Picture::with_packing(texture_type, width, height, packing, level0)? })
     }
 
-    /// A level of this picture as a picture of its own, which knows how often it was reduced. Refusal: 6.
+    /// A level of this picture as a picture of its own, which knows how often it was reduced and goes on by the same packing.
+    /// Refusal: 6.
     pub fn reopen(&self, level: u32) -> Result<Picture, Refusal> {
         let sizes = self.level_sizes(level)?;
-        let reductions = self.reductions + level;
-        Picture::reduced(reductions, self.texture_type, sizes.width, sizes.height, &self.texels[sizes.start..])
+        let (reductions, from) = (self.reductions + level, &self.texels[sizes.start..]);
+        Picture::reduced(reductions, self.texture_type, sizes.width, sizes.height, self.packing, from)
     }
 
-    /// An aligned part of level 0 as a picture of its own. Refusals: 8, 11.
+    /// An aligned part of level 0 as a picture of its own, by the same packing. Refusals: 8, 11.
     pub fn cut(&self, part: Cut) -> Result<Picture, Refusal> {
         let room = part.width.min(4096) as usize * part.height.min(4096) as usize;
         let mut target = vec![0; room];
         calls::cut(self.texture_type, self.width, self.height, &self.texels, part, &mut target)?;
-        Picture::reduced(self.reductions, self.texture_type, part.width, part.height, &target)
+        Picture::reduced(self.reductions, self.texture_type, part.width, part.height, self.packing, &target)
     }
 
     /// The ranges of level 0, beside a copy of it that can be changed texel by texel. Refusal: 8 for a cubemap.
@@ -108,6 +141,11 @@ impl Picture {
 
     pub fn height(&self) -> u32 {
         self.height
+    }
+
+    /// How the levels were packed, and how those of a picture that is made of this one are.
+    pub fn packing(&self) -> Packing {
+        self.packing
     }
 
     /// How often level 0 was reduced since it was brought in.

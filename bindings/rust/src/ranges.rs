@@ -3,7 +3,7 @@
 use crate::calls;
 use crate::picture::Picture;
 use crate::refusal::Refusal;
-use crate::types::TextureType;
+use crate::types::{Packing, TextureType};
 
 /// The texels along a tile's side.
 const TILE: u32 = 16;
@@ -63,6 +63,7 @@ pub struct Ranges {
     texture_type: TextureType,
     width: u32,
     height: u32,
+    packing: Packing,
     reductions: u32,
     level0: Vec<u32>,
     bytes: Vec<u8>,
@@ -74,8 +75,8 @@ impl Ranges {
         let (texture_type, width, height) = (picture.texture_type(), picture.width(), picture.height());
         let mut bytes = vec![0; (tiles_along(width) * tiles_along(height)) as usize * RANGE];
         calls::build_ranges(texture_type, width, height, picture.texels(), &mut bytes)?;
-        let level0 = picture.level(0)?.to_vec();
-        Ok(Ranges { texture_type, width, height, reductions: picture.reductions(), level0, bytes })
+        let (packing, reductions, level0) = (picture.packing(), picture.reductions(), picture.level(0)?.to_vec());
+        Ok(Ranges { texture_type, width, height, packing, reductions, level0, bytes })
     }
 
     /// Replaces the texel at (x, y) and brings its tile's range up to date. Levels are made of the texels as they then are by
@@ -86,10 +87,10 @@ impl Ranges {
     }
 
     /// The picture whose level 0 this is, all its levels made afresh: what to ask for once texels were replaced, since a
-    /// replacement changes level 0 alone. It was reduced as often as the picture that the ranges came from. Nothing is refused:
-    /// kind and sides are that picture's.
+    /// replacement changes level 0 alone. It was reduced as often as the picture that the ranges came from, and by the same packing.
+    /// Nothing is refused: kind and sides are that picture's.
     pub fn picture(&self) -> Result<Picture, Refusal> {
-        Picture::reduced(self.reductions, self.texture_type, self.width, self.height, &self.level0)
+        Picture::reduced(self.reductions, self.texture_type, self.width, self.height, self.packing, &self.level0)
     }
 
     /// The tile that the texel at (x, y) lies in. Refusal: 14.

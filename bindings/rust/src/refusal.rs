@@ -63,6 +63,7 @@ impl Refusal {
                 "use a corner and sides that are multiples of 2 to the order",
             ),
             14 => ("the place lies outside the picture", "use an x below the width and a y below the height"),
+            15 => ("the packing mode is unknown", "use 0, which truncates, or 1, which takes the nearest"),
             _ => ("the number is none of the paper's", "report this"),
         }
     }

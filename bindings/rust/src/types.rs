@@ -32,6 +32,37 @@ impl From<TextureType> for u32 {
     }
 }
 
+/// How a reduced channel becomes a byte again. Truncating is the station's own way and the default; choose Nearest for levels that
+/// are held beside those of a tool that rounds. It moves what a mean or a root is packed to: every channel of Normal, Cubemap and
+/// Linear, green and blue of MetallicRoughness, and of SRGB alpha alone, since its colours have their own rule.
+///
+/// ```
+/// use swathecold::{Packing, Picture, TextureType};
+/// let pair = [0x00FF00FF, 0xFF0000FF];
+/// let truncated = Picture::new(TextureType::Linear, 2, 1, &pair)?;
+/// let rounded = Picture::with_packing(TextureType::Linear, 2, 1, Packing::Nearest, &pair)?;
+/// assert_eq!(truncated.level(1)?, [0x7F7F00FF]);
+/// assert_eq!(rounded.level(1)?, [0x808000FF]);
+/// # Ok::<(), swathecold::Refusal>(())
+/// ```
+///
+/// Levels of the two must not be mixed: a level made by one and reduced further by the other is a level of neither. Nothing in the
+/// texels says how they were packed, so keep the packing beside a level that is saved; a [`Picture`](crate::Picture) does.
+#[derive(Clone, Copy, Debug, Default, PartialEq, Eq)]
+pub enum Packing {
+    /// Down to the whole number below.
+    #[default]
+    Truncating = 0,
+    /// To the nearest whole number, a half upward.
+    Nearest = 1,
+}
+
+impl From<Packing> for u32 {
+    fn from(packing: Packing) -> u32 {
+        packing as u32
+    }
+}
+
 /// What happens to a texel number outside the side, by glTF's codes.
 #[derive(Clone, Copy, Debug, Default, PartialEq, Eq)]
 pub enum WrapMode {

@@ -127,7 +127,7 @@ fn stale_ranges_and_the_chain_stay_but_for_one_tile_and_one_texel() {
     let total = level_sizes(TextureType::Linear, width, height, 0).unwrap().total;
     let mut chain = level0(width, height);
     chain.resize(total, 0);
-    generate_mipmaps(TextureType::Linear, width, height, &mut chain).unwrap();
+    generate_mipmaps(TextureType::Linear, width, height, Packing::Truncating, &mut chain).unwrap();
     for (x, y) in [(0, 0), (15, 15), (16, 15), (32, 0), (0, 16), (32, 17)] {
         let (mut texels, mut ranges) = (chain.clone(), vec![CANARY; 6 * 8 + 3]);
         replace_texel(TextureType::Linear, width, height, &mut texels, &mut ranges, x, y, OTHER).unwrap();

@@ -22,12 +22,13 @@ fn each_number_is_given_by_its_own_input() {
     let odd = Cut { order: 1, x: 1, y: 0, width: 2, height: 2 };
     assert_eq!(number(cut(4u32, 4, 2, &[0; 8], odd, &mut [0; 4])), 11);
     assert_eq!(number(replace_texel(4u32, 4, 1, &mut [0; 4], &mut [0; 8], 4, 0, 0)), 14);
+    assert_eq!(number(generate_mipmaps(4u32, 4, 1, 2u32, &mut [0; 7])), 15);
 }
 
 #[test]
 fn a_refused_call_leaves_its_buffers_alone() {
     let mut texels = [0x11223344u32; 6];
-    assert_eq!(number(generate_mipmaps(TextureType::Linear, 4, 1, &mut texels)), 3);
+    assert_eq!(number(generate_mipmaps(TextureType::Linear, 4, 1, Packing::Truncating, &mut texels)), 3);
     assert_eq!(texels, [0x11223344; 6]);
     let mut target = [5u32; 3];
     let part = Cut { order: 0, x: 0, y: 0, width: 2, height: 2 };
@@ -55,6 +56,8 @@ fn every_number_has_words() {
     );
     let said = replace_texel(4u32, 1, 1, &mut [0], &mut [0; 8], 0, 1, 0).unwrap_err().to_string();
     assert_eq!(said, "refused 14: the place lies outside the picture; use an x below the width and a y below the height");
+    let said = generate_mipmaps(4u32, 1, 1, 2u32, &mut [0]).unwrap_err().to_string();
+    assert_eq!(said, "refused 15: the packing mode is unknown; use 0, which truncates, or 1, which takes the nearest");
 }
 
 #[test]
