@@ -8,8 +8,8 @@ use crate::unit::{Directions, Picture, Unit};
 mod c {
     extern "C" {
         pub fn swathecold_level_sizes(kind: u32, width: u32, height: u32, level: u32, sizes: *mut u64) -> u32;
-        pub fn swathecold_generate_mipmaps(kind: u32, width: u32, height: u32, texels: *mut u32, texels_len: usize,
-                                           written: *mut u64) -> u32;
+        pub fn swathecold_generate_mipmaps(kind: u32, width: u32, height: u32, mode: u32, texels: *mut u32,
+                                           texels_len: usize, written: *mut u64) -> u32;
         pub fn swathecold_cut_cross(width: u32, height: u32, bytes: *const u8, bytes_len: usize, faces: *mut u32,
                                     faces_len: usize, written: *mut u64) -> u32;
         pub fn swathecold_cut(kind: u32, width: u32, height: u32, source: *const u32, source_len: usize,
@@ -57,8 +57,9 @@ impl Unit for Boundary {
         unsafe { c::swathecold_level_sizes(kind, width, height, level, sizes.as_mut_ptr()) }
     }
 
-    fn generate_mipmaps(&self, kind: u32, width: u32, height: u32, texels: &mut [u32], written: &mut u64) -> u32 {
-        unsafe { c::swathecold_generate_mipmaps(kind, width, height, texels.as_mut_ptr(), texels.len(), written) }
+    fn generate_mipmaps(&self, kind: u32, width: u32, height: u32, mode: u32, texels: &mut [u32],
+                        written: &mut u64) -> u32 {
+        unsafe { c::swathecold_generate_mipmaps(kind, width, height, mode, texels.as_mut_ptr(), texels.len(), written) }
     }
 
     fn cut_cross(&self, width: u32, height: u32, bytes: &[u8], faces: &mut [u32], written: &mut u64) -> u32 {

@@ -29,7 +29,7 @@ pub const NAMES: [&str; 16] = [
 #[rustfmt::skip]
 pub enum Call<'a> {
     LevelSizes { kind: u32, width: u32, height: u32, level: u32 },
-    GenerateMipmaps { kind: u32, width: u32, height: u32, texels: &'a [u32] },
+    GenerateMipmaps { kind: u32, width: u32, height: u32, mode: u32, texels: &'a [u32] },
     CutCross { width: u32, height: u32, bytes: &'a [u8], faces: &'a [u32] },
     Cut { source: Lent<'a>, cut: Cut, target: &'a [u32] },
     LevelView { picture: Lent<'a>, level: u32, face: u32 },
@@ -142,7 +142,7 @@ impl<'a> Call<'a> {
 }
 
 /// The numbers that a call can answer: 0, or a refusal. 9 is retired and never used again, 12 is the listing program's.
-pub const NUMBERS: [u32; 12] = [0, 1, 2, 3, 4, 5, 6, 7, 8, 10, 11, 14];
+pub const NUMBERS: [u32; 13] = [0, 1, 2, 3, 4, 5, 6, 7, 8, 10, 11, 14, 15];
 
 /// What stands where nothing was written.
 pub const UNTOUCHED: u32 = 0xC5C5_5C5C;
@@ -232,10 +232,9 @@ pub fn ask(unit: &dyn Unit, call: &Call, outcome: &mut Outcome) {
             height,
             level,
         } => wide(words, |sizes| unit.level_sizes(*kind, *width, *height, *level, sizes)),
-        Call::GenerateMipmaps {
-            kind, width, height, ..
-        } => wide::<1>(words, |written| {
-            unit.generate_mipmaps(*kind, *width, *height, lent, &mut written[0])
+        Call::GenerateMipmaps { kind, mode, .. } => wide::<1>(words, |written| {
+            let (width, height) = call.sides();
+            unit.generate_mipmaps(*kind, width, height, *mode, lent, &mut written[0])
         }),
         Call::CutCross {
             width, height, bytes, ..

@@ -26,6 +26,8 @@ pub struct Tally {
     pub left_out: u64,
     pub listed: u64,
     pub smallest_listed: Option<Shown>,
+    /// Accepted calls that the source was not asked, since it does not have them.
+    pub not_asked: u64,
 }
 
 /// One that is held against the reading.
@@ -89,8 +91,8 @@ impl Other {
     }
 }
 
-/// Refusal numbers run to 14; 0 stands for an accepted call.
-const REFUSALS: usize = 15;
+/// Refusal numbers run to 15; 0 stands for an accepted call.
+const REFUSALS: usize = 16;
 
 /// The reading and those that are held against it.
 pub struct Comparison {
@@ -137,8 +139,12 @@ impl Comparison {
         let refused = self.expected.refusal != 0;
         for other in &mut self.others {
             let seen = self.until_seen && other.differences() > 0;
-            let not_asked = other.is_source && (refused || !other.unit.has(call));
-            if !seen && !not_asked {
+            if seen || (other.is_source && refused) {
+                continue;
+            }
+            if other.is_source && !other.unit.has(call) {
+                other.tally_of(call).not_asked += 1;
+            } else {
                 other.compare(&*self.reading, call, &self.expected, &mut self.got);
             }
         }

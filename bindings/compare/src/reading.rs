@@ -28,8 +28,9 @@ impl<R: Rules> Unit for Reading<R> {
         put(plain::level_sizes::<R>(kind, width, height, level), sizes)
     }
 
-    fn generate_mipmaps(&self, kind: u32, width: u32, height: u32, texels: &mut [u32], written: &mut u64) -> u32 {
-        put(plain::generate_mipmaps::<R>(kind, width, height, texels), written)
+    fn generate_mipmaps(&self, kind: u32, width: u32, height: u32, mode: u32, texels: &mut [u32],
+                        written: &mut u64) -> u32 {
+        put(plain::generate_mipmaps::<R>(kind, width, height, mode, texels), written)
     }
 
     fn cut_cross(&self, width: u32, height: u32, bytes: &[u8], faces: &mut [u32], written: &mut u64) -> u32 {

@@ -60,17 +60,17 @@ fn of_one(other: &Other) -> String {
     text
 }
 
-/// The calls that were never asked of one: the source has not all of them.
+/// The accepted calls that were not asked of one, by their number: the source has not all of them.
 fn not_asked(other: &Other) -> String {
-    let asked = |call: usize| (0..KINDS).any(|kind| other.tally(call, kind).calls > 0);
-    let names: Vec<&str> = (0..NAMES.len())
-        .filter(|call| !asked(*call))
-        .map(|call| NAMES[call])
+    let of = |call: usize| (0..KINDS).map(|kind| other.tally(call, kind).not_asked).sum::<u64>();
+    let counts: Vec<String> = (0..NAMES.len())
+        .filter(|call| of(*call) > 0)
+        .map(|call| format!("{} {}", of(call), NAMES[call]))
         .collect();
-    if names.is_empty() {
+    if counts.is_empty() {
         return String::new();
     }
-    format!("\nNot asked of it: {}\n", names.join(", "))
+    format!("\nAccepted calls not asked of it: {}\n", counts.join(", "))
 }
 
 /// The tallies in which something was counted.

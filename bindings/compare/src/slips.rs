@@ -1,6 +1,6 @@
 //! Deliberate slips, each in one rule of the plain reading. The comparison is tried on them: it must see every one.
 
-use crate::plain::{decoded, Axis, Document01, Rules, Wrap};
+use crate::plain::{decoded, Axis, Document01, Rules, Wrap, NEAREST, TRUNCATING};
 use crate::random::ulps;
 use crate::reading::Reading;
 use crate::unit::Unit;
@@ -24,7 +24,7 @@ slips! {
     UnpackByProduct { fn unpack(byte: u32) -> f32 { byte as f32 * (1.0 / 255.0) } }
 
     /// Rounding in the pack.
-    RoundingPack { fn pack(value: f32) -> u32 { (value * 255.0 + 0.5) as u32 } }
+    RoundingPack { fn pack(_mode: u32, value: f32) -> u32 { (value * 255.0 + 0.5) as u32 } }
 
     /// Keeping the third column of a 3-wide level.
     ThirdColumn {
@@ -57,8 +57,8 @@ slips! {
 
     /// SRGB: the k whose T(k) is nearest the mean.
     NearestOnCurve {
-        fn encoded(mean: f32) -> u32 {
-            let below = Document01::encoded(mean);
+        fn encoded(mean: f32, mode: u32) -> u32 {
+            let below = Document01::encoded(mean, mode);
             let above = (below + 1).min(255);
             if decoded(above) - mean < mean - decoded(below) { above } else { below }
         }
@@ -71,10 +71,10 @@ slips! {
     CrossOrder { const CROSS: [(u32, u32); 6] = [(2, 1), (0, 1), (1, 2), (1, 0), (1, 1), (3, 1)]; }
 
     /// Refusal 4 before 8.
-    FourBeforeEight { const ORDER: [u32; 8] = [1, 2, 3, 4, 8, 6, 7, 5]; }
+    FourBeforeEight { const ORDER: [u32; 9] = [1, 2, 3, 4, 8, 15, 6, 7, 5]; }
 
     /// Refusal 5 before 6 and 7, in the order of the numbers.
-    FiveBeforeSix { const ORDER: [u32; 8] = [1, 2, 3, 8, 4, 5, 6, 7]; }
+    FiveBeforeSix { const ORDER: [u32; 9] = [1, 2, 3, 8, 15, 4, 5, 6, 7]; }
 
     /// Coordinate 2048 refused.
     CoordinateLimit { fn coordinate_taken(coordinate: f32) -> bool { coordinate.abs() < 2048.0 } }
@@ -226,4 +226,32 @@ slips! {
 
     /// The colour times the basis first.
     ColourTimesBasis { fn added(colour: f32, basis: f32, weight: f32) -> f32 { (colour * basis) * weight } }
+
+    /// The mode ignored.
+    ModeIgnored { fn pack(_mode: u32, value: f32) -> u32 { Document01::pack(TRUNCATING, value) } }
+
+    /// Nearest with a half downward.
+    HalfDownward { fn rounded(product: f32) -> u32 { (product * 2.0).ceil() as u32 / 2 } }
+
+    /// Nearest with a half to the even neighbour.
+    HalfToEven { fn rounded(product: f32) -> u32 { product.round_ties_even() as u32 } }
+
+    /// The half added in f32.
+    HalfAddedInF32 { fn rounded(product: f32) -> u32 { (product + 0.5) as u32 } }
+
+    /// SRGB colour by the mode.
+    ColourByMode {
+        fn encoded(mean: f32, mode: u32) -> u32 {
+            if mode == NEAREST { NearestOnCurve::encoded(mean, mode) } else { Document01::encoded(mean, mode) }
+        }
+    }
+
+    /// SRGB's alpha truncated in nearest mode.
+    AlphaTruncated { fn mode_of_alpha(_mode: u32) -> u32 { TRUNCATING } }
+
+    /// Red and alpha of p10 in nearest mode.
+    TakenFromP10 { fn taken_over(p: [u32; 4], mode: u32) -> u32 { if mode == NEAREST { p[1] } else { p[0] } } }
+
+    /// Refusal 15 before 3.
+    FifteenBeforeThree { const ORDER: [u32; 9] = [1, 2, 15, 3, 8, 4, 6, 7, 5]; }
 }

@@ -32,7 +32,7 @@ pub fn smaller(
             least = found;
         }
     };
-    if let Some((kind, four)) = four_texels(call, expected, got) {
+    if let Some((kind, mode, four)) = four_texels(call, expected, got) {
         let faces = if kind == CUBEMAP { 6 } else { 1 };
         let mut texels = four.repeat(faces);
         texels.resize(5 * faces, UNTOUCHED);
@@ -40,6 +40,7 @@ pub fn smaller(
             kind,
             width: 2,
             height: 2,
+            mode,
             texels: &texels,
         });
     }
@@ -54,10 +55,14 @@ pub fn smaller(
     least
 }
 
-/// The four texels from which a chain's first wrong texel was to be made.
-fn four_texels(call: &Call, expected: &Outcome, got: &Outcome) -> Option<(u32, [u32; 4])> {
+/// The kind, the mode and the four texels from which a chain's first wrong texel was to be made.
+fn four_texels(call: &Call, expected: &Outcome, got: &Outcome) -> Option<(u32, u32, [u32; 4])> {
     let Call::GenerateMipmaps {
-        kind, width, height, ..
+        kind,
+        width,
+        height,
+        mode,
+        ..
     } = *call
     else {
         return None;
@@ -78,7 +83,7 @@ fn four_texels(call: &Call, expected: &Outcome, got: &Outcome) -> Option<(u32, [
         let (x0, y0) = (place % w * 2, place / w * 2);
         let (x1, y1) = ((x0 + 1).min(w0 - 1), (y0 + 1).min(h0 - 1));
         let at = |x: usize, y: usize| expected.buffer[before + face * w0 * h0 + y * w0 + x];
-        return Some((kind, [at(x0, y0), at(x1, y0), at(x0, y1), at(x1, y1)]));
+        return Some((kind, mode, [at(x0, y0), at(x1, y0), at(x0, y1), at(x1, y1)]));
     }
     None
 }

@@ -1,8 +1,9 @@
 //! The source's own text as a unit. It has no refusals, no cut and no ranges: it is asked only what document 01 accepts.
-//! Its coefficients are by other rules than document 02's, and are no part of the comparison.
+//! It truncates, so a chain in nearest mode is not asked of it. Its coefficients are by other rules than document 02's, and are
+//! no part of the comparison.
 
 use crate::call::Call;
-use crate::plain::{Cut, Lanes, Lent, Replacement, CUBEMAP};
+use crate::plain::{Cut, Lanes, Lent, Replacement, CUBEMAP, TRUNCATING};
 use crate::unit::{Directions, Picture, Unit};
 use glam::{UVec4, Vec4};
 use std::cell::RefCell;
@@ -142,6 +143,7 @@ impl Unit for Source {
     fn has(&self, call: &Call) -> bool {
         match call {
             Call::Cut { .. } | Call::BuildRanges { .. } | Call::ReplaceTexel { .. } | Call::IrradianceSh4 { .. } => false,
+            Call::GenerateMipmaps { mode, .. } => *mode == TRUNCATING,
             Call::LevelSizes { width, height, .. } => *width as u64 * *height as u64 <= LARGEST_FOR_SIZES,
             Call::LevelView { picture, .. } => picture.width as u64 * picture.height as u64 <= LARGEST_FOR_SIZES,
             _ => true,
@@ -155,7 +157,9 @@ impl Unit for Source {
         0
     }
 
-    fn generate_mipmaps(&self, kind: u32, width: u32, height: u32, texels: &mut [u32], written: &mut u64) -> u32 {
+    fn generate_mipmaps(&self, kind: u32, width: u32, height: u32, mode: u32, texels: &mut [u32],
+                        written: &mut u64) -> u32 {
+        assert_eq!(mode, TRUNCATING, "the source has no other mode");
         let faces = if kind == CUBEMAP { 6 } else { 1 };
         let level_0 = texels[..width as usize * height as usize * faces].to_vec();
         let mut made = texture(kind, width, height, level_0);

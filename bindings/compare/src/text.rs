@@ -79,8 +79,9 @@ fn arguments(call: &Call) -> String {
             kind,
             width,
             height,
+            mode,
             texels,
-        } => format!("kind {kind}, {width} by {height}, {}", Texels(texels)),
+        } => format!("kind {kind}, {width} by {height}, mode {mode}, {}", Texels(texels)),
         Call::CutCross {
             width,
             height,

@@ -26,7 +26,8 @@ pub trait Unit {
     fn has(&self, _call: &Call) -> bool { true }
 
     fn level_sizes(&self, kind: u32, width: u32, height: u32, level: u32, sizes: &mut [u64; 4]) -> u32;
-    fn generate_mipmaps(&self, kind: u32, width: u32, height: u32, texels: &mut [u32], written: &mut u64) -> u32;
+    fn generate_mipmaps(&self, kind: u32, width: u32, height: u32, mode: u32, texels: &mut [u32],
+                        written: &mut u64) -> u32;
     fn cut_cross(&self, width: u32, height: u32, bytes: &[u8], faces: &mut [u32], written: &mut u64) -> u32;
     fn cut(&self, source: &Lent, cut: &Cut, target: &mut [u32], written: &mut u64) -> u32;
     fn level_view(&self, picture: &Lent, level: u32, face: u32, part: &mut [u64; 2]) -> u32;

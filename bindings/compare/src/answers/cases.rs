@@ -1,7 +1,7 @@
 //! Which calls stand in the list: every refusal alone and with each later one, 01's own items, borders, drawn ones.
 
 use super::generator::{bytes, texels};
-use super::record::{record, Record, ARGUMENTS};
+use super::record::{record, Record, ARGUMENTS, MODE};
 use super::{BEFORE, LONGEST};
 use crate::call::{Call, Outcome};
 use crate::cases::curve::Fourths;
@@ -9,7 +9,7 @@ use crate::cases::refusals::OF_CALL;
 use crate::cases::spoil::{accepted, of_picture, taken_kind, Arguments, TARGET};
 use crate::cases::values::sides;
 use crate::comparison::ask_reading;
-use crate::plain::{chain_texels, Cut, Document01, Lent, CUBEMAP, NORMAL, SRGB};
+use crate::plain::{chain_texels, Cut, Document01, Lent, CUBEMAP, NORMAL, SRGB, TRUNCATING};
 use crate::random::Random;
 use crate::reading::Reading;
 
@@ -22,9 +22,9 @@ const ACCEPTED: [usize; 16] = [
 const ALONE: usize = 3;
 
 /// A list that grows.
-struct List {
+pub struct List {
     records: Vec<Record>,
-    random: Random,
+    pub random: Random,
 }
 
 /// The list of a seed.
@@ -33,12 +33,12 @@ pub fn sample(seed: u64) -> Vec<Record> {
         records: Vec::new(),
         random: Random::of(seed, "answers"),
     };
-    items(&mut list);
+    items(&mut list, TRUNCATING);
     curve(&mut list);
     for call in 0..OF_CALL.len() {
         refusals(&mut list, call);
         for _ in 0..ACCEPTED[call] {
-            accepted_call(&mut list, call);
+            accepted_call(&mut list, call, TRUNCATING);
         }
     }
     cubemaps(&mut list);
@@ -68,12 +68,17 @@ impl List {
     }
 
     /// Adds a chain over a level 0 that is written out.
-    fn add_chain(&mut self, kind: u32, width: u32, height: u32, level_0: &[u32]) {
+    pub fn add_chain(&mut self, kind: u32, width: u32, height: u32, mode: u32, level_0: &[u32]) {
         let texels = followed_by_0(level_0, chain_texels::<Document01>(kind, width, height) as usize);
+        assert!(
+            texels.len() <= MODE - ARGUMENTS,
+            "the chain's words end before its mode"
+        );
         let call = Call::GenerateMipmaps {
             kind,
             width,
             height,
+            mode,
             texels: &texels,
         };
         self.add_written_out(&call, level_0);
@@ -102,17 +107,17 @@ fn followed_by_0(texels: &[u32], length: usize) -> Vec<u32> {
 }
 
 /// The reference items that are chains, and flat Normal pictures of every byte up to 64.
-fn items(list: &mut List) {
+pub fn items(list: &mut List, mode: u32) {
     for (kind, left, right) in [
         (4, 0x00FF00FF, 0xFF0000FF),
         (1, 0x01FF80FF, 0x01FF80FF),
         (2, 0x11FF0022, 0x3300FF44),
         (0, 0xFF0000FF, 0x000000FF),
     ] {
-        list.add_chain(kind, 2, 1, &[left, right]);
+        list.add_chain(kind, 2, 1, mode, &[left, right]);
     }
     for byte in 0..=64u32 {
-        list.add_chain(NORMAL, 2, 1, &[byte * 0x0101_0101; 2]);
+        list.add_chain(NORMAL, 2, 1, mode, &[byte * 0x0101_0101; 2]);
     }
 }
 
@@ -122,7 +127,7 @@ fn curve(list: &mut List) {
     let found: Vec<[u32; 4]> = (0..256).flat_map(|k| fourths.sensitive(k)).flatten().collect();
     for three in found.chunks_exact(3) {
         let texel = |i: usize| three[0][i] << 24 | three[1][i] << 16 | three[2][i] << 8 | 255;
-        list.add_chain(SRGB, 2, 2, &[texel(0), texel(1), texel(2), texel(3)]);
+        list.add_chain(SRGB, 2, 2, TRUNCATING, &[0, 1, 2, 3].map(texel));
     }
 }
 
@@ -147,22 +152,23 @@ fn cubemaps(list: &mut List) {
     }
 }
 
-/// Every refusal of a call alone, and with each later one.
+/// Every refusal of a call alone, and with each later one; 15 stands with T-06's records.
 fn refusals(list: &mut List, call: usize) {
-    let numbers = OF_CALL[call];
+    let numbers: Vec<u32> = OF_CALL[call].iter().copied().filter(|number| *number != 15).collect();
     for (i, first) in numbers.iter().enumerate() {
         for _ in 0..ALONE {
-            refused_call(list, call, &[*first]);
+            refused_call(list, call, TRUNCATING, &[*first]);
         }
         for second in &numbers[i + 1..] {
-            refused_call(list, call, &[*first, *second]);
+            refused_call(list, call, TRUNCATING, &[*first, *second]);
         }
     }
 }
 
-/// A call for which these refusals' conditions hold.
-fn refused_call(list: &mut List, call: usize, chosen: &[u32]) {
+/// A call for which these refusals' conditions hold; a chain's mode is this one, where it is not to be unknown.
+pub fn refused_call(list: &mut List, call: usize, mode: u32, chosen: &[u32]) {
     let mut arguments = accepted(&mut list.random, call, 0);
+    arguments.set_mode(mode);
     // A kind that is not taken comes first, so that a kind above 4 is not lost where both are chosen.
     for refusal in chosen.iter().rev() {
         arguments.spoil(&mut list.random, call, *refusal);
@@ -171,8 +177,8 @@ fn refused_call(list: &mut List, call: usize, chosen: &[u32]) {
     list.add_arguments(call, arguments);
 }
 
-/// An accepted call: a small picture, or a long one where its chain is not too long for the list.
-fn accepted_call(list: &mut List, call: usize) {
+/// An accepted call: a small picture, or a long one where its chain is not too long for the list. A chain is of this mode.
+pub fn accepted_call(list: &mut List, call: usize, mode: u32) {
     let kind = taken_kind(&mut list.random, call);
     let (width, height) = sides(&mut list.random);
     let has_buffer = !matches!(call, 0 | 5 | 10);
@@ -186,6 +192,7 @@ fn accepted_call(list: &mut List, call: usize) {
         let cut = drawn_cut(&mut list.random, arguments.width, arguments.height);
         arguments.set_cut(cut);
     }
+    arguments.set_mode(mode);
     arguments.lend(&mut list.random, call, false, false);
     list.add_arguments(call, arguments);
 }

@@ -10,7 +10,7 @@ use crate::call::NUMBERS;
 
 pub use cases::sample;
 pub use generator::{bytes, checksum, texels};
-pub use record::{Record, ANSWER, ARGUMENTS, WORDS};
+pub use record::{Record, ANSWER, ARGUMENTS, MODE, WORDS};
 pub use replay::{agrees, call_of};
 
 /// No lent buffer of the list is longer: texels, and bytes of a cross or of ranges.

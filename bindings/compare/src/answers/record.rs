@@ -10,6 +10,9 @@ pub const WORDS: usize = 36;
 /// Where the arguments begin that not every call has.
 pub const ARGUMENTS: usize = 6;
 
+/// Where a chain's mode stands: the last of the arguments, behind the texels that a chain may have there.
+pub const MODE: usize = 21;
+
 /// Where the answer begins: the refusal, twelve words, the sum over the buffer that was written.
 pub const ANSWER: usize = 22;
 
@@ -23,6 +26,11 @@ struct Words<'a> {
 }
 
 impl Words<'_> {
+    fn at(&mut self, place: usize) -> &mut Self {
+        self.place = place;
+        self
+    }
+
     fn put(&mut self, words: &[u32]) -> &mut Self {
         self.record[self.place..self.place + words.len()].copy_from_slice(words);
         self.place += words.len();
@@ -73,7 +81,8 @@ fn put_arguments(record: &mut Record, call: &Call) {
     };
     match call {
         Call::LevelSizes { level, .. } => words.put(&[*level]),
-        Call::GenerateMipmaps { .. } | Call::IrradianceSh4 { .. } => &mut words,
+        Call::GenerateMipmaps { mode, .. } => words.at(MODE).put(&[*mode]),
+        Call::IrradianceSh4 { .. } => &mut words,
         Call::CutCross { faces, .. } => words.put(&[faces.len() as u32]),
         Call::Cut { cut, target, .. } => words.put(&[
             cut.order,

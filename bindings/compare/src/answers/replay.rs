@@ -1,7 +1,7 @@
 //! From a record back to the call, and the call asked of a unit.
 
 use super::generator::{bytes, texels};
-use super::record::{answer, Record, ANSWER, ARGUMENTS};
+use super::record::{answer, Record, ANSWER, ARGUMENTS, MODE};
 use super::BEFORE;
 use crate::call::{ask, Call, Outcome};
 use crate::plain::{Cut, Lanes, Lent, Replacement};
@@ -38,7 +38,8 @@ impl Buffers {
             written: vec![BEFORE; written],
         };
         if seed == 0 && !is_cross {
-            buffers.texels = record[ARGUMENTS..ANSWER].to_vec();
+            let end = if call == 1 { MODE } else { ANSWER };
+            buffers.texels = record[ARGUMENTS..end].to_vec();
             buffers.texels.resize(length, 0);
         }
         buffers
@@ -67,7 +68,7 @@ pub fn call_of<'a>(record: &Record, buffers: &'a Buffers) -> Call<'a> {
     let directions = Directions { x: lanes(record, 0), y: lanes(record, 4), z: lanes(record, 8) };
     match record[0] {
         0 => Call::LevelSizes { kind, width, height, level: argument(0) },
-        1 => Call::GenerateMipmaps { kind, width, height, texels: &buffers.texels },
+        1 => Call::GenerateMipmaps { kind, width, height, mode: record[MODE], texels: &buffers.texels },
         2 => Call::CutCross { width, height, bytes: &buffers.bytes, faces: &buffers.written },
         3 => Call::Cut {
             source: lent,

@@ -1,7 +1,7 @@
 //! Chains of each kind, the cut and the cross, with memcpy of the same texels as the floor.
 
 use super::{time, Row};
-use crate::plain::{chain_texels, level_texels, Cut, Document01, Lent};
+use crate::plain::{chain_texels, level_texels, Cut, Document01, Lent, TRUNCATING};
 use crate::random::Random;
 use crate::unit::Unit;
 
@@ -18,7 +18,7 @@ pub fn chain<'a>(unit: &'a dyn Unit, random: &mut Random, name: &str, kind: u32,
         count: level_0 as u64,
         unit: Some(Box::new(move || {
             let mut written = 0;
-            time(|| unit.generate_mipmaps(kind, side, side, &mut texels, &mut written))
+            time(|| unit.generate_mipmaps(kind, side, side, TRUNCATING, &mut texels, &mut written))
         })),
         source: source_chain(kind, side, first),
         floor: Some(Box::new(move || time(|| to.copy_from_slice(&from)))),

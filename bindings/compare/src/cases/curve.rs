@@ -7,7 +7,7 @@
 
 use super::Run;
 use crate::call::Call;
-use crate::plain::{decoded, Document01, Rules};
+use crate::plain::{decoded, Document01, Rules, TRUNCATING};
 use crate::random::ulps;
 
 /// Runs the part.
@@ -116,6 +116,7 @@ fn picture(run: &mut Run, bytes: [u32; 4]) {
         kind: 0,
         width: 2,
         height: 2,
+        mode: TRUNCATING,
         texels: &texels,
     });
 }

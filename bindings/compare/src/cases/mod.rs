@@ -11,11 +11,13 @@ mod directions;
 mod irradiance;
 mod levels;
 mod nearest;
+mod packing;
 mod ranges;
 pub mod refusals;
 mod replacements;
 mod sizes;
 pub mod spoil;
+pub mod squares;
 mod texels;
 pub mod values;
 mod wraps;
@@ -166,11 +168,12 @@ fn mixed(texels: &[u32]) -> u64 {
 /// A part of a run.
 type Part = (&'static str, fn(&mut Run));
 
-/// The parts, in 01's order and then in 02's.
-const PARTS: [Part; 15] = [
+/// The parts, in 01's order and then in 02's; packing stands with the chains.
+const PARTS: [Part; 16] = [
     ("refusals", refusals::run),
     ("sizes", sizes::run),
     ("chains", chains::run),
+    ("packing", packing::run),
     ("curve", curve::run),
     ("crosses", crosses::run),
     ("cuts", cuts::run),

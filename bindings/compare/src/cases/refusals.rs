@@ -2,11 +2,12 @@
 
 use super::spoil::{accepted, TARGET};
 use super::Run;
+use crate::plain::{NEAREST, TRUNCATING};
 
 /// The refusals that each call can give, by its number; a second 3 is that of the second buffer.
 pub const OF_CALL: [&[u32]; 16] = [
     &[1, 2, 6],
-    &[1, 2, 3],
+    &[1, 2, 3, 15],
     &[10, 3, TARGET],
     &[1, 2, 3, 8, 11, TARGET],
     &[1, 2, 3, 8, 6],
@@ -26,25 +27,40 @@ pub const OF_CALL: [&[u32]; 16] = [
 /// Each choice of refusals is tried so many times, with other spoiled arguments.
 const TIMES: u64 = 300;
 
-/// Runs the part.
+/// The number of the chain call.
+const CHAIN: usize = 1;
+
+/// Runs the part. Chains with an unknown mode and in nearest mode come behind all others, so that the other calls of a seed
+/// stay as they are.
 pub fn run(run: &mut Run) {
-    for (call, refusals) in OF_CALL.iter().enumerate() {
-        for choice in 0..1u32 << refusals.len() {
-            let chosen: Vec<u32> = (0..refusals.len())
-                .filter(|i| choice >> i & 1 == 1)
-                .map(|i| refusals[i])
-                .collect();
+    for call in 0..OF_CALL.len() {
+        every_choice(run, call, TRUNCATING, |chosen| !chosen.contains(&15));
+    }
+    every_choice(run, CHAIN, TRUNCATING, |chosen| chosen.contains(&15));
+    every_choice(run, CHAIN, NEAREST, |chosen| !chosen.contains(&15));
+}
+
+/// Every choice of a call's refusals that is wanted; a chain is of this mode where it is not to be unknown.
+fn every_choice(run: &mut Run, call: usize, mode: u32, wanted: impl Fn(&[u32]) -> bool) {
+    let refusals = OF_CALL[call];
+    for choice in 0..1u32 << refusals.len() {
+        let chosen: Vec<u32> = (0..refusals.len())
+            .filter(|i| choice >> i & 1 == 1)
+            .map(|i| refusals[i])
+            .collect();
+        if wanted(&chosen) {
             for _ in 0..TIMES.div_ceil(run.scale.every as u64) {
-                once(run, call, &chosen);
+                once(run, call, mode, &chosen);
             }
         }
     }
 }
 
 /// One call with the chosen refusals' conditions holding.
-fn once(run: &mut Run, call: usize, chosen: &[u32]) {
+fn once(run: &mut Run, call: usize, mode: u32, chosen: &[u32]) {
     let number = run.new_number();
     let mut arguments = accepted(&mut run.random, call, number);
+    arguments.set_mode(mode);
     // A kind that is not taken first, so that a kind above 4 is not lost where both are chosen.
     for refusal in chosen
         .iter()

@@ -7,6 +7,7 @@ use super::CODES;
 use crate::call::Call;
 use crate::plain::{
     chain_texels, level_texels, ranges_bytes, top_level, Cut, Document01, Lanes, Lent, Replacement, Rules, CUBEMAP,
+    TRUNCATING,
 };
 use crate::random::{ulps, Random};
 use crate::unit::{Directions, Picture};
@@ -19,6 +20,7 @@ pub struct Arguments {
     pub kind: u32,
     pub width: u32,
     pub height: u32,
+    mode: u32,
     texels: Vec<u32>,
     number: u64,
     level: u32,
@@ -72,6 +74,7 @@ pub fn of_picture(random: &mut Random, call: usize, number: u64, kind: u32, widt
         kind,
         width,
         height,
+        mode: TRUNCATING,
         texels: Vec::new(),
         number,
         level,
@@ -157,6 +160,7 @@ impl Arguments {
             }
             11 => self.spoil_cut(random),
             14 => self.spoil_place(random),
+            15 => self.mode = random.pick(&[2, 3, 4, 255, 256, 1 << 31, u32::MAX]),
             _ => (),
         }
     }
@@ -272,6 +276,11 @@ impl Arguments {
         self.cut = cut;
     }
 
+    /// A mode in the place of the truncating one.
+    pub fn set_mode(&mut self, mode: u32) {
+        self.mode = mode;
+    }
+
     /// The call of this number with these arguments.
     #[rustfmt::skip]
     pub fn call(&self, call: usize) -> Call<'_> {
@@ -280,7 +289,7 @@ impl Arguments {
         let picture = Picture { number: self.number, lent };
         match call {
             0 => Call::LevelSizes { kind, width, height, level },
-            1 => Call::GenerateMipmaps { kind, width, height, texels: &self.texels },
+            1 => Call::GenerateMipmaps { kind, width, height, mode: self.mode, texels: &self.texels },
             2 => Call::CutCross { width, height, bytes: &self.bytes, faces: &self.target },
             3 => Call::Cut { source: lent, cut: self.cut, target: &self.target },
             4 => Call::LevelView { picture: lent, level, face: faces[0] },

@@ -25,6 +25,8 @@ mod whole;
 mod wrap;
 
 #[cfg(test)]
+mod laws;
+#[cfg(test)]
 mod reference;
 
 pub use bilinear::{sample_bilinear_alpha, sample_bilinear_rgb};
@@ -55,6 +57,10 @@ pub const NORMAL: u32 = 1;
 pub const METALLIC_ROUGHNESS: u32 = 2;
 pub const CUBEMAP: u32 = 3;
 pub const LINEAR: u32 = 4;
+
+/// T-06's modes of packing: 0 truncating, 1 nearest.
+pub const TRUNCATING: u32 = 0;
+pub const NEAREST: u32 = 1;
 
 /// A picture as a call is given it: kind and sides by value, the buffer beside them.
 #[derive(Clone, Copy)]

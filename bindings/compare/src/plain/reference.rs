@@ -1,4 +1,4 @@
-//! The twelve reference items of document 01.
+//! The twelve reference items of document 01, and what document 02 makes of three of them.
 
 use super::*;
 
@@ -16,9 +16,9 @@ fn texels(kind: u32, width: u32, height: u32) -> u64 {
 }
 
 /// Two texels side by side, reduced once.
-fn pair(kind: u32, left: u32, right: u32) -> u32 {
+fn pair(kind: u32, mode: u32, left: u32, right: u32) -> u32 {
     let mut buffer = [left, right, 0, 0x5A5A_5A5A];
-    assert_eq!(generate_mipmaps::<D>(kind, 2, 1, &mut buffer), Ok(3));
+    assert_eq!(generate_mipmaps::<D>(kind, 2, 1, mode, &mut buffer), Ok(3));
     assert_eq!([buffer[0], buffer[1], buffer[3]], [left, right, 0x5A5A_5A5A]);
     buffer[2]
 }
@@ -41,7 +41,7 @@ fn item_2_the_third_column_takes_no_part() {
     assert_eq!(texels(LINEAR, 3, 1), 4);
     let reduced = |third: u32| {
         let mut buffer = [0x10203040, 0x30405060, third, 0];
-        assert_eq!(generate_mipmaps::<D>(LINEAR, 3, 1, &mut buffer), Ok(4));
+        assert_eq!(generate_mipmaps::<D>(LINEAR, 3, 1, TRUNCATING, &mut buffer), Ok(4));
         buffer[3]
     };
     assert_eq!(reduced(0), reduced(0xFFFF_FFFF));
@@ -64,10 +64,17 @@ fn item_4_a_cubemap() {
 
 #[test]
 fn items_5_to_8_one_reduction_of_each_kind() {
-    assert_eq!(pair(LINEAR, 0x00FF00FF, 0xFF0000FF), 0x7F7F00FF);
-    assert_eq!(pair(NORMAL, 0x01FF80FF, 0x01FF80FF), 0x00FF80FF);
-    assert_eq!(pair(METALLIC_ROUGHNESS, 0x11FF0022, 0x3300FF44), 0x11B47F22);
-    assert_eq!(pair(SRGB, 0xFF0000FF, 0x000000FF), 0xBB0000FF);
+    let pairs = |mode: u32| {
+        [
+            pair(LINEAR, mode, 0x00FF00FF, 0xFF0000FF),
+            pair(NORMAL, mode, 0x01FF80FF, 0x01FF80FF),
+            pair(METALLIC_ROUGHNESS, mode, 0x11FF0022, 0x3300FF44),
+            pair(SRGB, mode, 0xFF0000FF, 0x000000FF),
+        ]
+    };
+    assert_eq!(pairs(TRUNCATING), [0x7F7F00FF, 0x00FF80FF, 0x11B47F22, 0xBB0000FF]);
+    // T-06: in nearest mode items 5, 6 and 7 become these.
+    assert_eq!(pairs(NEAREST), [0x808000FF, 0x01FF80FF, 0x11B48022, 0xBB0000FF]);
 }
 
 #[test]

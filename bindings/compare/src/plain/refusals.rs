@@ -53,6 +53,11 @@ pub fn of_level_0<R: Rules>(lent: &Lent) -> [(u32, bool); 3] {
     of_picture(lent, level_texels::<R>(lent.kind, lent.width, lent.height, 0))
 }
 
+/// 15: a mode of packing that is unknown.
+pub fn bad_mode(mode: u32) -> bool {
+    mode > 1
+}
+
 /// 5: a coordinate is not finite, or its magnitude is above 2,048.
 pub fn bad_coordinates<R: Rules>(u: &Lanes, v: &Lanes) -> bool {
     u.iter().chain(v).any(|c| !R::coordinate_taken(*c))

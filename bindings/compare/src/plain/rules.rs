@@ -3,6 +3,7 @@
 
 use super::curve::decoded_table;
 use super::wrap::Wrap;
+use super::NEAREST;
 
 /// The axis of the largest component.
 #[derive(Clone, Copy, PartialEq, Debug)]
@@ -14,8 +15,8 @@ pub enum Axis {
 
 /// Document 01's small rules.
 pub trait Rules {
-    /// Order: 1, 2, 3, 8, 4, 6, 7, 5 (T-03: 9 is retired).
-    const ORDER: [u32; 8] = [1, 2, 3, 8, 4, 6, 7, 5];
+    /// Order: 1, 2, 3, 8, 15, 4, 6, 7, 5 (T-03: 9 is retired; T-06: 15 after 8).
+    const ORDER: [u32; 9] = [1, 2, 3, 8, 15, 4, 6, 7, 5];
 
     /// Face places in faces (column, row), in layout order.
     const CROSS: [(u32, u32); 6] = [(2, 1), (0, 1), (1, 0), (1, 2), (1, 1), (3, 1)];
@@ -38,9 +39,27 @@ pub trait Rules {
         byte as f32 / 255.0
     }
 
-    /// Pack: value * 255.0, truncated.
-    fn pack(value: f32) -> u32 {
-        (value * 255.0) as u32
+    /// Pack: value * 255.0, truncated; T-06: in nearest mode that product is rounded.
+    fn pack(mode: u32, value: f32) -> u32 {
+        let product = value * 255.0;
+        if mode == NEAREST {
+            Self::rounded(product)
+        } else {
+            product as u32
+        }
+    }
+
+    /// T-06: nearest with a half upward, floor(p + 1/2) of the product p.
+    fn rounded(product: f32) -> u32 {
+        // Twice an f32 is an f32 again, so nothing is rounded here: n is the whole part of 2p, and floor(p + 1/2) is
+        // floor((n + 1) / 2), half of n taken upward.
+        let n = (product * 2.0) as u32;
+        n.div_ceil(2)
+    }
+
+    /// T-06: of SRGB only alpha follows the mode: the one that it is packed by.
+    fn mode_of_alpha(mode: u32) -> u32 {
+        mode
     }
 
     /// x1 = min(x0+1, previous width - 1), y1 likewise.
@@ -63,8 +82,13 @@ pub trait Rules {
         Self::mean(p.map(|p| p * p)).sqrt()
     }
 
-    /// The greatest k with T(k) at most the mean.
-    fn encoded(mean: f32) -> u32 {
+    /// MetallicRoughness: red and alpha of p00; T-06: in either mode.
+    fn taken_over(p: [u32; 4], _mode: u32) -> u32 {
+        p[0]
+    }
+
+    /// The greatest k with T(k) at most the mean; T-06: in either mode.
+    fn encoded(mean: f32, _mode: u32) -> u32 {
         // T grows with k and T(0) = 0, so the k with T(k) at most the mean are 0 up to the greatest.
         decoded_table().partition_point(|t| *t <= mean) as u32 - 1
     }

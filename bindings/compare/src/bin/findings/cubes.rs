@@ -4,6 +4,7 @@ use std::fs;
 use std::path::Path;
 use swathecold_compare::plain::{
     chain_texels, decoded_table, generate_mipmaps, level_sizes, on_cube, top_level, Document01, Lent, CUBEMAP,
+    TRUNCATING,
 };
 use swathecold_compare::random::Random;
 use swathecold_compare::unit::Unit;
@@ -51,7 +52,7 @@ impl Cube {
     pub fn levels(mut self) -> Vec<Cube> {
         self.texels
             .resize(chain_texels::<Document01>(CUBEMAP, self.side, self.side) as usize, 0);
-        generate_mipmaps::<Document01>(CUBEMAP, self.side, self.side, &mut self.texels)
+        generate_mipmaps::<Document01>(CUBEMAP, self.side, self.side, TRUNCATING, &mut self.texels)
             .expect("a cubemap that is taken");
         let level = |m: u32| {
             let [start, side, ..] = level_sizes::<Document01>(CUBEMAP, self.side, self.side, m).expect("a level");
