@@ -1,6 +1,7 @@
 //! Which calls stand in the list: every refusal alone and with each later one, 01's own items, borders, drawn ones.
 
 use super::generator::{bytes, texels};
+use super::packing::packing;
 use super::record::{record, Record, ARGUMENTS, MODE};
 use super::{BEFORE, LONGEST};
 use crate::call::{Call, Outcome};
@@ -42,6 +43,7 @@ pub fn sample(seed: u64) -> Vec<Record> {
         }
     }
     cubemaps(&mut list);
+    packing(&mut list);
     list.records
 }
 

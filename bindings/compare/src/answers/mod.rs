@@ -3,6 +3,7 @@
 
 mod cases;
 mod generator;
+mod packing;
 mod record;
 mod replay;
 
