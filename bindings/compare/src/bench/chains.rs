@@ -1,33 +1,54 @@
 //! Chains of each kind, the cut and the cross, with memcpy of the same texels as the floor.
 
-use super::{time, Row};
-use crate::plain::{chain_texels, level_texels, Cut, Document01, Lent, TRUNCATING};
+use super::{time, Row, Timed};
+use crate::plain::{chain_texels, level_texels, Cut, Document01, Lent, NEAREST, TRUNCATING};
 use crate::random::Random;
 use crate::unit::Unit;
 
 /// The chain of a square picture; a thing is a texel of level 0.
 pub fn chain<'a>(unit: &'a dyn Unit, random: &mut Random, name: &str, kind: u32, side: u32) -> Row<'a> {
-    let level_0 = level_texels::<Document01>(kind, side, side, 0) as usize;
-    let whole = chain_texels::<Document01>(kind, side, side) as usize;
-    let mut texels: Vec<u32> = (0..level_0).map(|_| random.next() as u32).collect();
-    let first = texels.clone();
-    let (from, mut to) = (texels.clone(), vec![0u32; level_0]);
-    texels.resize(whole, 0);
+    let level_0 = drawn(random, kind, side);
+    let (from, mut to) = (level_0.clone(), vec![0u32; level_0.len()]);
     Row {
         name: name.to_string(),
-        count: level_0 as u64,
-        unit: Some(Box::new(move || {
-            let mut written = 0;
-            time(|| unit.generate_mipmaps(kind, side, side, TRUNCATING, &mut texels, &mut written))
-        })),
-        source: source_chain(kind, side, first),
+        count: level_0.len() as u64,
+        unit: Some(unit_chain(unit, kind, side, TRUNCATING, &level_0)),
+        source: source_chain(kind, side, level_0),
         floor: Some(Box::new(move || time(|| to.copy_from_slice(&from)))),
     }
 }
 
+/// The chain of a square picture in nearest mode, with the truncating one as the floor; a thing is a texel of level 0.
+pub fn nearest<'a>(unit: &'a dyn Unit, random: &mut Random, name: &str, kind: u32, side: u32) -> Row<'a> {
+    let level_0 = drawn(random, kind, side);
+    Row {
+        name: name.to_string(),
+        count: level_0.len() as u64,
+        unit: Some(unit_chain(unit, kind, side, NEAREST, &level_0)),
+        source: None,
+        floor: Some(unit_chain(unit, kind, side, TRUNCATING, &level_0)),
+    }
+}
+
+/// Drawn texels of a square picture's level 0.
+fn drawn(random: &mut Random, kind: u32, side: u32) -> Vec<u32> {
+    let texels = level_texels::<Document01>(kind, side, side, 0);
+    (0..texels).map(|_| random.next() as u32).collect()
+}
+
+/// The unit's chain, over a buffer made before.
+fn unit_chain<'a>(unit: &'a dyn Unit, kind: u32, side: u32, mode: u32, level_0: &[u32]) -> Timed<'a> {
+    let mut texels = level_0.to_vec();
+    texels.resize(chain_texels::<Document01>(kind, side, side) as usize, 0);
+    Box::new(move || {
+        let mut written = 0;
+        time(|| unit.generate_mipmaps(kind, side, side, mode, &mut texels, &mut written))
+    })
+}
+
 /// The source's chain: `generate_mipmaps` alone, over a texture made before.
 #[cfg(source)]
-fn source_chain<'a>(kind: u32, side: u32, level_0: Vec<u32>) -> Option<super::Timed<'a>> {
+fn source_chain<'a>(kind: u32, side: u32, level_0: Vec<u32>) -> Option<Timed<'a>> {
     Some(Box::new(move || {
         let mut texture = crate::source::texture(kind, side, side, level_0.clone());
         let taken = time(|| texture.generate_mipmaps());
@@ -37,7 +58,7 @@ fn source_chain<'a>(kind: u32, side: u32, level_0: Vec<u32>) -> Option<super::Ti
 }
 
 #[cfg(not(source))]
-fn source_chain<'a>(_kind: u32, _side: u32, _level_0: Vec<u32>) -> Option<super::Timed<'a>> {
+fn source_chain<'a>(_kind: u32, _side: u32, _level_0: Vec<u32>) -> Option<Timed<'a>> {
     None
 }
 

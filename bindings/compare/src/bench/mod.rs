@@ -4,6 +4,7 @@ pub mod arguments;
 pub mod chains;
 pub mod irradiance;
 pub mod lookups;
+pub mod packing;
 pub mod ranges;
 
 use crate::unit::Unit;
