@@ -1,10 +1,11 @@
-//! `findings`: what the source does to a flat SRGB card, how far its irradiance is from document 02's, and how many texels
-//! that bears. What the source does depends on the platform's `powf`.
+//! `findings`: what the source does to a flat SRGB card, how far its irradiance is from document 02's, how many texels that
+//! bears, and what each mode of packing does to a picture's mean. What the source does depends on the platform's `powf`.
 
 #[cfg(source)]
 mod card;
 mod cubes;
 mod irradiance;
+mod packing;
 
 fn main() {
     #[cfg(source)]
@@ -21,4 +22,6 @@ fn main() {
     irradiance::rounded_sums();
     println!();
     irradiance::reduced_levels();
+    println!();
+    packing::print();
 }
