@@ -5,7 +5,7 @@ use Prim.Native.Nat.{ℕ, zero, suc, _<_}
 use native.Mathlib.Omega.{arith}
 use Rattle.rules.specs.declared.Packing.the-variants.{Nearest}
 use Rattle.rules.specs.Kinds.{redOf, greenOf, blueOf, alphaOf, rgba}
-use Rattle.rules.specs.Reducing.{eachOf, onChannel, meanByte, normalByte, linearOf, normalOf, metallicOf, srgbOf, reduceOf}
+use Rattle.rules.specs.Reducing.{eachOf, meanByte, normalByte, linearOf, normalOf, metallicOf, srgbOf, reduceOf}
 use Rattle.texel.proofs.Amid.{Amid, mean-amid, normal-amid, rough-amid}
 use Rattle.kinds.specs.declared.channel.Quad.{Quad}
 use Rattle.kinds.proofs.Halves.{Words, red-byte, low-byte}

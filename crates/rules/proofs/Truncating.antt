@@ -1,6 +1,6 @@
 -- Truncating is what stood before there were packing modes. The pack is the f32 product's whole part; and the chain call with code 0 is
 -- refused, answers and leaves as it did, since 15 is never given there. Assumes nothing.
-use mathlib.Core.Path.{_≡_, refl, _∙_}
+use mathlib.Core.Path.{_≡_, refl}
 use mathlib.Core.List.{List}
 use Prim.Native.Nat.{ℕ}
 use lib.ListN.{length}
@@ -14,7 +14,7 @@ use Rattle.rules.specs.Packing.{packingCode, packOf}
 use Rattle.rules.specs.Pictures.{filledOf}
 use Rattle.rules.specs.Refusals.{_orElse_, chainRefusal, mipmapsRefusal, modeRefusal}
 use Rattle.rules.specs.Answers.{answer, leaves, chainAnswer, chainLeaves}
-use Rattle.rules.proofs.Refusing.{orElse-last, mode-taken}
+use Rattle.rules.proofs.Refusing.{orElse-last}
 
 -- value * 255.0, truncated
 pub truncating : (x : Float) → packOf Truncating x ≡ toUnsigned 64 (mul binary32 x top32)

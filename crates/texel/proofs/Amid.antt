@@ -7,15 +7,14 @@ use native.Mathlib.Nat.{le-trans, le-of-eq}
 use native.Mathlib.Omega.{arith}
 use lib.Dec.{T, eqb, eqb→eq}
 use lib.Ieee.{Float, binary32, le, neg, add, sub, mul, div, ofInt, ofBits}
-use lib.Ieee.Scale.{finite}
 use Rattle.rules.specs.declared.Packing.the-variants.{Nearest}
-use Rattle.rules.specs.Floats.{Between, zero32, one32, minus1, two32, unpackOf, meanOf, squareOf}
+use Rattle.rules.specs.Floats.{Between, zero32, one32, minus1, two32, unpackOf, squareOf}
 use Rattle.rules.specs.Whole.{upwardOf}
 use Rattle.rules.specs.Packing.{packOf}
 use Rattle.rules.specs.NearestValue.{units, reaches, found, rootPattern}
 use Rattle.rules.specs.Root.{sqrtOf}
-use Rattle.rules.specs.Reducing.{spreadOf, backOf, normalMean, squaresMean, meanByte, normalByte, roughByte}
-use Rattle.texel.proofs.Range.{Between-finite, le-trans-finite, le-self, mul-mono, in-add, in-sub, in-div}
+use Rattle.rules.specs.Reducing.{spreadOf, meanByte, normalByte, roughByte}
+use Rattle.texel.proofs.Range.{Between-finite, le-trans-finite, le-self, mul-mono, in-sub}
 use Rattle.texel.proofs.Unit.{unpack-in, unpack-between, mean-between, double-finite, spread-in, spread-mean-in, back-between, product-in}
 use Rattle.texel.proofs.RootRule.{widen, in-root}
 use Rattle.texel.proofs.Every.{below, at-below}

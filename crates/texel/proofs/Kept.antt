@@ -1,14 +1,13 @@
 -- The pack keeps the order, in each mode: of two values from 0 to 1 the larger one is packed to the same byte or to a larger one. A product with
 -- 255 keeps the order, and so does the whole part of p + h / 2. Assumes nothing.
-use mathlib.Core.Path.{_≡_, refl, sym}
+use mathlib.Core.Path.{_≡_, refl}
 use Prim.Native.Nat.{ℕ, _+_, _*_, _/_, _≤_, _<_}
-use native.Mathlib.Nat.{le-trans, le-of-eq, mul-comm, mul-assoc, mul-left-comm, add-mul, mul-le-mul-left, mul-le-mul-right}
+use native.Mathlib.Nat.{mul-comm, mul-assoc, mul-left-comm, add-mul}
 use native.Mathlib.Omega.{arith}
 use lib.Dec.{T}
 use lib.Ieee.{Float, binary32, le, mul, ofBits}
 use lib.Ieee.Fits.{mul-fits}
 use lib.Ieee.Nearest.{div-mono}
-use lib.Ieee.Scale.{finite}
 use lib.Ieee.Positive.{num, den, den-pos}
 use Rattle.rules.specs.declared.Packing.{Packing}
 use Rattle.rules.specs.Floats.{Between, zero32, one32, top32}

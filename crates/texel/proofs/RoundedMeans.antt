@@ -3,14 +3,13 @@
 -- 512, since K n is a multiple of 256; between 2 and 4 it may fall on K n, but not where n is 2 modulo 4. That is what a half needs, which lies on
 -- the edge between two bytes; every other sum is far from an edge. From above, each f32 sum of multiples of 8225 * 2^-21 is exact. What the steps
 -- need of each n is a computed test. Assumes nothing.
-use mathlib.Core.Path.{_≡_, refl, sym, ap, _∙_, subst}
-use mathlib.Core.Logic.{_⊎_, inl, inr}
-use mathlib.Core.Bool.{Bool, true, false, cond}
+use mathlib.Core.Path.{_≡_, subst}
+use mathlib.Core.Bool.{false, cond}
 use Prim.Native.Nat.{ℕ, zero, suc, _+_, _-_, _*_, _/_, _%_, _^_, _≤_, _<_, min, zero-le}
-use native.Mathlib.Nat.{add-zero, lt-of-not-le, le-trans, le-of-eq, le-antisymm, mul-le-mul-right, add-mul, mul-add}
+use native.Mathlib.Nat.{add-zero, lt-of-not-le, le-trans, le-antisymm, mul-le-mul-right, mul-add}
 use native.Mathlib.Omega.{arith}
 use native.Mathlib.Decide.{decLe}
-use lib.IntN.{pos, negsuc}
+use lib.IntN.{negsuc}
 use lib.Dec.{T, leb, ltb, eqb, leb→le, lit<}
 use lib.Ieee.{Float, fin, binary32, round, sum, add, mul, div, le, ofInt, ofBits}
 use lib.Ieee.Order.{round-mono}

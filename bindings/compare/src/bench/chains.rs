@@ -1,5 +1,8 @@
 //! Chains of each kind, the cut and the cross, with memcpy of the same texels as the floor.
 
+use std::cell::RefCell;
+use std::rc::Rc;
+
 use super::{time, Row, Timed};
 use crate::plain::{chain_texels, level_texels, Cut, Document01, Lent, NEAREST, TRUNCATING};
 use crate::random::Random;
@@ -12,21 +15,23 @@ pub fn chain<'a>(unit: &'a dyn Unit, random: &mut Random, name: &str, kind: u32,
     Row {
         name: name.to_string(),
         count: level_0.len() as u64,
-        unit: Some(unit_chain(unit, kind, side, TRUNCATING, &level_0)),
+        unit: Some(unit_chain(unit, kind, side, TRUNCATING, &lent(kind, side, &level_0))),
         source: source_chain(kind, side, level_0),
         floor: Some(Box::new(move || time(|| to.copy_from_slice(&from)))),
     }
 }
 
-/// The chain of a square picture in nearest mode, with the truncating one as the floor; a thing is a texel of level 0.
+/// The chain of a square picture in nearest mode, with the truncating one as the floor; a thing is a texel of level 0. Both are made in one
+/// buffer: two that lie in other pages can differ by a fifth.
 pub fn nearest<'a>(unit: &'a dyn Unit, random: &mut Random, name: &str, kind: u32, side: u32) -> Row<'a> {
     let level_0 = drawn(random, kind, side);
+    let texels = lent(kind, side, &level_0);
     Row {
         name: name.to_string(),
         count: level_0.len() as u64,
-        unit: Some(unit_chain(unit, kind, side, NEAREST, &level_0)),
+        unit: Some(unit_chain(unit, kind, side, NEAREST, &texels)),
         source: None,
-        floor: Some(unit_chain(unit, kind, side, TRUNCATING, &level_0)),
+        floor: Some(unit_chain(unit, kind, side, TRUNCATING, &texels)),
     }
 }
 
@@ -36,12 +41,18 @@ fn drawn(random: &mut Random, kind: u32, side: u32) -> Vec<u32> {
     (0..texels).map(|_| random.next() as u32).collect()
 }
 
-/// The unit's chain, over a buffer made before.
-fn unit_chain<'a>(unit: &'a dyn Unit, kind: u32, side: u32, mode: u32, level_0: &[u32]) -> Timed<'a> {
+/// A buffer for the chain of a level 0, which chains of either mode leave as it is.
+fn lent(kind: u32, side: u32, level_0: &[u32]) -> Rc<RefCell<Vec<u32>>> {
     let mut texels = level_0.to_vec();
     texels.resize(chain_texels::<Document01>(kind, side, side) as usize, 0);
+    Rc::new(RefCell::new(texels))
+}
+
+/// The unit's chain, over a buffer made before.
+fn unit_chain<'a>(unit: &'a dyn Unit, kind: u32, side: u32, mode: u32, texels: &Rc<RefCell<Vec<u32>>>) -> Timed<'a> {
+    let texels = Rc::clone(texels);
     Box::new(move || {
-        let mut written = 0;
+        let (mut texels, mut written) = (texels.borrow_mut(), 0);
         time(|| unit.generate_mipmaps(kind, side, side, mode, &mut texels, &mut written))
     })
 }

@@ -1,12 +1,8 @@
 -- `texel::packing::pack` meets its contract: the product lies in 0 to 255, and the sum with the mode's offset has in its pattern what the mode
 -- keeps (`Packs`). Assumes nothing.
-use mathlib.Core.Path.{ap, _∙_}
-use mathlib.Core.Bool.{not}
-use lib.Dec.{T}
-use lib.Ieee.{Float, binary32, binary64, add, mul, toBits, isNan, ofBits}
+use lib.Ieee.{binary32, mul, ofBits}
 use lib.Ieee.Fits.{mul-fits}
 use borrow.Author.Needs.{needs}
-use Prim.Native.Nat.{_/_, _%_}
 use Rattle.rules.specs.Floats.{Between, zero32, top32}
 use Rattle.rules.specs.Packing.{packOf}
 use Rattle.texel.proofs.Range.{Between-finite}
