@@ -1,15 +1,15 @@
--- In nearest mode no channel of a reduced texel lies outside the least and the greatest of its four: of every kind that is reduced by means, and of
--- SRGB's alpha. Channel by channel it is the law of its mean, and red and alpha of MetallicRoughness are p00's. Assumes nothing.
+-- In nearest mode no channel of a reduced texel lies outside the least and the greatest of its four, of every kind. Channel by channel it is the law of
+-- its rule, and red and alpha of MetallicRoughness are p00's. Assumes nothing.
 use mathlib.Core.Path.{_≡_, refl}
 use Prim.Native.Nat.{ℕ, zero, suc, _<_}
 use native.Mathlib.Omega.{arith}
 use Rattle.rules.specs.declared.Packing.the-variants.{Nearest}
 use Rattle.rules.specs.Kinds.{redOf, greenOf, blueOf, alphaOf, rgba}
 use Rattle.rules.specs.Reducing.{eachOf, meanByte, normalByte, linearOf, normalOf, metallicOf, srgbOf, reduceOf}
-use Rattle.texel.proofs.Amid.{Amid, mean-amid, normal-amid, rough-amid}
+use Rattle.texel.proofs.Amid.{Amid, mean-amid, normal-amid, rough-amid, srgb-amid}
 use Rattle.kinds.specs.declared.channel.Quad.{Quad}
 use Rattle.kinds.proofs.Halves.{Words, red-byte, low-byte}
-use Rattle.kinds.proofs.Codes.{of-normal, of-metallic, of-linear}
+use Rattle.kinds.proofs.Codes.{of-srgb, of-normal, of-metallic, of-linear}
 
 -- one channel of t lies between those of four texels
 abbrev pub AmidIn : (ℕ → ℕ) → Quad → ℕ → Type 0
@@ -69,21 +69,20 @@ module _ (q : Quad) (w : Words q) where
       (mean-amid _ _ _ _ (low-byte _) (low-byte _) (low-byte _) (low-byte _))
       (first-amid _ _ _ _)
 
-  -- Normal, MetallicRoughness; Cubemap, Linear
-  pub texel-amid : (kind : ℕ) → 0 < kind → AmidTexel q (reduceOf kind Nearest (q .p00) (q .p10) (q .p01) (q .p11))
-  unfolding normalOf linearOf
-  texel-amid zero some = absurd (omega arith)
-  texel-amid (suc zero) some = rw (of-normal 1 Nearest refl) (each (normalByte Nearest) normal-amid)
-  texel-amid (suc (suc zero)) some = rw (of-metallic 2 Nearest refl) metallic
-  texel-amid (suc (suc (suc k))) some =
-      rw (of-linear (suc (suc (suc k))) Nearest some (λ e. omega arith) (λ e. omega arith)) (each (meanByte Nearest) mean-amid)
-
-  -- SRGB
-  pub srgb-alpha-amid : AmidIn alphaOf q (srgbOf Nearest (q .p00) (q .p10) (q .p01) (q .p11))
+  srgb : AmidTexel q (srgbOf Nearest (q .p00) (q .p10) (q .p01) (q .p11))
   unfolding srgbOf
-  srgb-alpha-amid =
-      let m = mean-amid (alphaOf (q .p00)) (alphaOf (q .p10)) (alphaOf (q .p01)) (alphaOf (q .p11)) (low-byte _) (low-byte _) (low-byte _) (low-byte _) in
-      rw (last _ _ _ _ (amid-lt (low-byte _) (low-byte _) (low-byte _) (low-byte _) m)) m
-    where
-      last : (r g b a : ℕ) → a < 256 → alphaOf (rgba r g b a) ≡ a
-      last r g b a h = unfold rgba in omega arith
+  srgb =
+      made q _ _ _ _ w
+      (srgb-amid _ _ _ _ (red-byte _ (w .first)) (red-byte _ (w .second)) (red-byte _ (w .third)) (red-byte _ (w .fourth)))
+      (srgb-amid _ _ _ _ (low-byte _) (low-byte _) (low-byte _) (low-byte _))
+      (srgb-amid _ _ _ _ (low-byte _) (low-byte _) (low-byte _) (low-byte _))
+      (mean-amid _ _ _ _ (low-byte _) (low-byte _) (low-byte _) (low-byte _))
+
+  -- SRGB, Normal, MetallicRoughness; Cubemap, Linear
+  pub texel-amid : (kind : ℕ) → AmidTexel q (reduceOf kind Nearest (q .p00) (q .p10) (q .p01) (q .p11))
+  unfolding normalOf linearOf
+  texel-amid zero = rw (of-srgb 0 Nearest refl) srgb
+  texel-amid (suc zero) = rw (of-normal 1 Nearest refl) (each (normalByte Nearest) normal-amid)
+  texel-amid (suc (suc zero)) = rw (of-metallic 2 Nearest refl) metallic
+  texel-amid (suc (suc (suc k))) =
+      rw (of-linear (suc (suc (suc k))) Nearest (omega arith) (λ e. omega arith) (λ e. omega arith)) (each (meanByte Nearest) mean-amid)

@@ -1,25 +1,28 @@
--- In nearest mode no mean lies outside the least and the greatest of its four bytes: not the plain mean, which is (s + 2) / 4; not Normal's, nor
--- the root of the mean of squares. Of these each operation keeps the order, so what four bytes make lies between what the least makes four
--- times and what the greatest makes; and a byte four times makes itself, which is computed. Assumes nothing.
+-- In nearest mode no channel lies outside the least and the greatest of its four bytes: not the plain mean, which is (s + 2) / 4; not Normal's, nor
+-- the root of the mean of squares, nor SRGB's colours, which follow no mode. Of these each operation keeps the order, so what four bytes make lies
+-- between what the least makes four times and what the greatest makes; and a byte four times makes itself, which is computed. Assumes nothing.
 use mathlib.Core.Path.{_≡_, refl, sym}
-use Prim.Native.Nat.{ℕ, _+_, _/_, _≤_, _<_, min, max}
-use native.Mathlib.Nat.{le-trans, le-of-eq}
+use mathlib.Core.Bool.{Bool, true, false, not}
+use Prim.Native.Nat.{ℕ, suc, _≤_, _<_, min, max}
+use native.Mathlib.Nat.{le-trans, le-of-eq, le-of-suc-le-suc, lt-of-not-le}
 use native.Mathlib.Omega.{arith}
 use lib.Dec.{T, eqb, eqb→eq}
 use lib.Ieee.{Float, binary32, le, neg, add, sub, mul, div, ofInt, ofBits}
 use Rattle.rules.specs.declared.Packing.the-variants.{Nearest}
-use Rattle.rules.specs.Floats.{Between, zero32, one32, minus1, two32, unpackOf, squareOf}
+use Rattle.rules.specs.Floats.{Between, zero32, one32, minus1, two32, unpackOf, meanOf, squareOf}
 use Rattle.rules.specs.Whole.{upwardOf}
 use Rattle.rules.specs.Packing.{packOf}
 use Rattle.rules.specs.NearestValue.{units, reaches, found, rootPattern}
 use Rattle.rules.specs.Root.{sqrtOf}
-use Rattle.rules.specs.Reducing.{spreadOf, meanByte, normalByte, roughByte}
+use Rattle.rules.specs.Curve.{curvePattern, curve, encodeOf}
+use Rattle.rules.specs.Reducing.{spreadOf, meanByte, normalByte, roughByte, srgbByte}
 use Rattle.texel.proofs.Range.{Between-finite, le-trans-finite, le-self, mul-mono, in-sub}
 use Rattle.texel.proofs.Unit.{unpack-in, unpack-between, mean-between, double-finite, spread-in, spread-mean-in, back-between, product-in}
 use Rattle.texel.proofs.RootRule.{widen, in-root}
 use Rattle.texel.proofs.Every.{below, at-below}
 use Rattle.texel.proofs.Kept.{pack-mono}
-use Rattle.texel.proofs.Claims.{normal-packed, squares-in, root-packed}
+use Rattle.texel.proofs.Inverse.{curve-mono, curve-in, curve-finite, greatest}
+use Rattle.texel.proofs.Claims.{normal-packed, squares-in, root-packed, curve-mean}
 use Rattle.texel.proofs.RoundedMeans.{rounded-mean}
 
 -- v lies between the least and the greatest of four
@@ -38,6 +41,30 @@ normal-flat = shown (λ k. normalByte Nearest k k k k) tt
 rough-flat : (k : ℕ) → k < 256 → roughByte Nearest k k k k ≡ k
 unfolding roughByte packOf upwardOf sqrtOf rootPattern found reaches units add mul div ofInt ofBits
 rough-flat = shown (λ k. roughByte Nearest k k k k) tt
+
+-- T(k) four times has the mean T(k), and no two bytes have one value
+curve-low : (k : ℕ) → k < 256 → T (le (curve k) (meanOf (curve k) (curve k) (curve k) (curve k)))
+unfolding curve curvePattern rootPattern found reaches units le add div ofBits
+curve-low = at-below (λ k. le (curve k) (meanOf (curve k) (curve k) (curve k) (curve k))) 256 tt
+
+curve-high : (k : ℕ) → k < 256 → T (le (meanOf (curve k) (curve k) (curve k) (curve k)) (curve k))
+unfolding curve curvePattern rootPattern found reaches units le add div ofBits
+curve-high = at-below (λ k. le (meanOf (curve k) (curve k) (curve k) (curve k)) (curve k)) 256 tt
+
+curve-apart : (k : ℕ) → k < 255 → T (not (le (curve (suc k)) (curve k)))
+unfolding curve curvePattern rootPattern found reaches units le ofBits
+curve-apart = at-below (λ k. not (le (curve (suc k)) (curve k))) 255 tt
+
+-- so T tells the order of bytes
+curve-tells : (e h : ℕ) → e < 256 → h < 256 → T (le (curve e) (curve h)) → e ≤ h
+curve-tells e h E H t = le-of-suc-le-suc (lt-of-not-le (λ (g : h < e). no-both (le (curve (suc h)) (curve h)) (past g) (curve-apart h (omega arith))))
+  where
+    past : h < e → T (le (curve (suc h)) (curve h))
+    past g = le-trans-finite (curve (suc h)) (curve e) (curve h) (curve-finite (suc h) (omega arith)) (curve-finite e E) (curve-finite h H) (curve-mono (suc h) e g E) t
+
+    no-both : (b : Bool) → T b → T (not b) → ⊥
+    no-both true t n = n
+    no-both false t n = t
 
 -- ---- products keep the order of values from 0 to 1, and the spread does
 wider : {x : Float} → Between zero32 x one32 → Between minus1 x one32
@@ -117,6 +144,26 @@ module _ (l h a b c d : ℕ) (few : h < 256) (A : (l ≤ a) × (a ≤ h)) (B : (
       (mean-between _ _ _ _ _ _ (wider (product-in _ _ L L)) (wider (product-in _ _ H H)) (square A) (square B) (square C) (square D)))
       (rough-flat l low-lt) (rough-flat h few)
 
+  tee : {k : ℕ} → (l ≤ k) × (k ≤ h) → Between (curve l) (curve k) (curve h)
+  tee {k} K = record { low = curve-mono l k (K .0) (lt K); high = curve-mono k h (K .1) few }
+
+  srgb-between : (l ≤ srgbByte a b c d) × (srgbByte a b c d ≤ h)
+  unfolding srgbByte ofBits
+  srgb-between =
+      let inside = curve-mean a b c d (lt A) (lt B) (lt C) (lt D) in
+      let m = meanOf (curve a) (curve b) (curve c) (curve d) in
+      let g = greatest m inside in
+      let k = mean-between _ _ _ _ _ _ (wider (curve-in l low-lt)) (wider (curve-in h few)) (tee A) (tee B) (tee C) (tee D) in
+      let fm = Between-finite zero32 m one32 tt tt inside in
+      let fl = Between-finite zero32 (meanOf (curve l) (curve l) (curve l) (curve l)) one32 tt tt (curve-mean l l l l low-lt low-lt low-lt low-lt) in
+      let fh = Between-finite zero32 (meanOf (curve h) (curve h) (curve h) (curve h)) one32 tt tt (curve-mean h h h h few few few few) in
+      let e = encodeOf m in (
+        g .most l low-lt (le-trans-finite _ _ _ (curve-finite l low-lt) fl fm (curve-low l low-lt) (k .low)),
+        curve-tells e h (g .small) few
+            (le-trans-finite _ _ _ (curve-finite e (g .small)) fm (curve-finite h few) (g .fits)
+            (le-trans-finite _ _ _ fm fh (curve-finite h few) (k .high) (curve-high h few))),
+      )
+
 -- ---- the least and the greatest of four
 module _ (a b c d : ℕ) (A : a < 256) (B : b < 256) (C : c < 256) (D : d < 256) where
   -- Linear, Cubemap, MetallicRoughness' blue, SRGB's alpha
@@ -135,3 +182,8 @@ module _ (a b c d : ℕ) (A : a < 256) (B : b < 256) (C : c < 256) (D : d < 256)
   pub rough-amid : Amid a b c d (roughByte Nearest a b c d)
   rough-amid =
       amid _ (rough-between (min (min a b) (min c d)) (max (max a b) (max c d)) a b c d (omega arith) (omega arith, omega arith) (omega arith, omega arith) (omega arith, omega arith) (omega arith, omega arith))
+
+  -- SRGB's colours
+  pub srgb-amid : Amid a b c d (srgbByte a b c d)
+  srgb-amid =
+      amid _ (srgb-between (min (min a b) (min c d)) (max (max a b) (max c d)) a b c d (omega arith) (omega arith, omega arith) (omega arith, omega arith) (omega arith, omega arith) (omega arith, omega arith))
