@@ -5,7 +5,7 @@ use lib.Ieee.{Float, fin}
 use Rattle.rules.specs.declared.Packing.{Packing}
 use Rattle.rules.specs.declared.Packing.the-variants.{Truncating, Nearest}
 
--- 2^26, and to the nearest 2^26 + 1/2
+-- 2^20, and to the nearest 2^20 + 1/2
 abbrev pub offsetOf : Packing → Float
-offsetOf Truncating = fin false 1 (pos 26)
-offsetOf Nearest = fin false 134217729 (negsuc 0)
+offsetOf Truncating = fin false 1 (pos 20)
+offsetOf Nearest = fin false 2097153 (negsuc 0)

@@ -12,23 +12,23 @@ pub fn unpack(byte: u8) -> f32
     (byte as f32) / 255.0
 }
 
-// What is added to a product: 2^26, and to the nearest 2^26 + 1/2.
+// What is added to a product: 2^20, and to the nearest 2^20 + 1/2.
 fn offset(packing: Packing) -> f64
     ensures { λ r. ⌜ r ≡ offsetOf packing ⌝ }
 {
     match packing {
-        Packing::Truncating => 67108864.0,
-        Packing::Nearest => 67108864.5,
+        Packing::Truncating => 1048576.0,
+        Packing::Nearest => 1048576.5,
     }
 }
 
 // Pack: value * 255.0, truncated, or to the nearest with a half upward. The f64 sum of a product from 0 to 255 and the offset has the whole
-// number in its bits 26 to 33.
+// number in its bits 32 to 39.
 pub fn pack(packing: Packing, value: f32) -> u8
     requires { ⌜ Between zero32 value one32 ⌝ }
     ensures { λ r. ⌜ r ≡ packOf packing value ⌝ }
 {
     let p = value * 255.0;
     let y = (p as f64) + offset(packing);
-    ((f64::to_bits(y) / 67108864) % 256) as u8
+    ((f64::to_bits(y) / 4294967296) % 256) as u8
 }
