@@ -1,26 +1,14 @@
 // The chain call: level 0 stands in the lent buffer already, and the rest of the chain is filled behind it.
+use crate::packing::packing_code;
 use crate::refusals::chain_refusal;
 use crate::sizes::count_of;
 use crate::sizes::faces_of;
 use crate::sizes::top_level;
 use reduce::chain::fill;
 use rules::Filled;
-use rules::Packing;
 use rules::PackingCode;
 ghost use mathlib.Core.Path.{_≡_};
-ghost use Rattle.rules.specs.Packing.{packingCode};
 ghost use Rattle.rules.specs.Answers.{chainAnswer, chainLeaves};
-
-// 0 truncating, 1 nearest; refusal 15 for every other code.
-pub fn packing_code(code: u32) -> PackingCode
-    ensures { λ r. ⌜ r ≡ packingCode code ⌝ }
-{
-    match code {
-        0 => PackingCode::By(Packing::Truncating),
-        1 => PackingCode::By(Packing::Nearest),
-        _ => PackingCode::Refused(15),
-    }
-}
 
 // Fills the levels after level 0, each made from the one before by the packing mode, and answers how many texels the chain has.
 pub fn generate_mipmaps(kind: u32, width: u32, height: u32, mode: u32, texels: &mut [u32]) -> Filled

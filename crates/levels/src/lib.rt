@@ -2,6 +2,7 @@
 pub mod chain;
 pub mod cross;
 pub mod cut;
+pub mod packing;
 pub mod refusals;
 pub mod sizes;
 pub mod view;

@@ -174,10 +174,15 @@ truncated : (meanByte Truncating 0 255 0 255 ≡ 0x7F) × (meanByte Nearest 0 25
 unfolding meanByte packOf upwardOf add mul div ofBits ofInt toUnsigned
 truncated = (refl, refl)
 
--- the product of the normals 0, 0, 0, 2 is 0.49999997: no half, though an f32 sum with 0.5 makes it 1
-below-a-half : (normalByte Nearest 0 0 0 2 ≡ 0) × (toUnsigned 64 (add binary32 (mul binary32 (normalMean (unpackOf 0) (unpackOf 0) (unpackOf 0) (unpackOf 2)) top32) half32) ≡ 1)
+-- seven squares of normals have the product 0.49999997: no half, though an f32 sum with 0.5 makes it 1
+seven-below-a-half : (normalByte Nearest 0 0 0 2 ≡ 0) × (normalByte Nearest 0 0 2 0 ≡ 0) × (normalByte Nearest 0 1 1 0 ≡ 0) × (normalByte Nearest 0 2 0 0 ≡ 0)
+    × (normalByte Nearest 1 0 1 0 ≡ 0) × (normalByte Nearest 1 1 0 0 ≡ 0) × (normalByte Nearest 2 0 0 0 ≡ 0)
 unfolding normalByte packOf upwardOf add sub mul div ofBits ofInt toUnsigned
-below-a-half = (refl, refl)
+seven-below-a-half = (refl, refl, refl, refl, refl, refl, refl)
+
+half-in-f32 : toUnsigned 64 (add binary32 (mul binary32 (normalMean (unpackOf 0) (unpackOf 0) (unpackOf 0) (unpackOf 2)) top32) half32) ≡ 1
+unfolding add sub mul div ofBits ofInt toUnsigned
+half-in-f32 = refl
 
 -- byte 1 survives a plain mean; as a normal it does not
 byte-one : (meanByte Truncating 1 1 1 1 ≡ 1) × (reduceOf normal Truncating 0x01FF80FF 0x01FF80FF 0x01FF80FF 0x01FF80FF ≡ 0x00FF80FF)

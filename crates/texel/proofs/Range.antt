@@ -2,18 +2,17 @@
 -- add lo lo' ≤ add x y ≤ add hi hi', and the two ends are constants that antt computes. Assumes nothing.
 use mathlib.Core.Path.{_≡_, refl, sym, ap, ap₂, _∙_, subst, subst₂}
 use mathlib.Core.Logic.{_⊎_, inl, inr}
-use Prim.Native.Nat.{ℕ, zero, suc, _+_, _-_, _*_, _/_, _^_, _≤_, _<_, zero-le}
+use Prim.Native.Nat.{ℕ, zero, suc, _+_, _-_, _*_, _^_, _≤_, _<_, zero-le}
 use native.Mathlib.Nat.{le-refl, le-trans, le-of-eq, le-of-lt, eq-or-lt-of-le, zero-lt-suc, zero-mul, mul-zero, mul-comm, mul-assoc, mul-left-comm, mul-right-comm, add-mul, mul-le-mul-right, mul-le-mul, le-of-mul-le-mul-right, lt-of-mul-lt-mul-right, mul-lt-mul-of-pos-right, mul-pos, mul-mul-mul-comm, eq-zero-or-pos}
 use native.Mathlib.Omega.{arith}
 use mathlib.Core.Bool.{Bool, true, false, not, _&&_, _||_, cond}
 use lib.Dec.{T, ltb, eqb, ltb→lt, lt→ltb, nltb→le, eqb→eq}
 use lib.Pow.{pow-pos}
-use lib.Ieee.{Float, nan, inf, fin, Format, prec, emax, low, unlike, up, down, odd, units, round, sum, neg, add, sub, mul, div, le, lt, toUnsigned}
-use lib.Ieee.Fits.{up-pos, down-pos, and-i, and-l, and-r, eq→eqb, round-is}
+use lib.Ieee.{Float, nan, inf, fin, Format, prec, emax, low, unlike, up, down, odd, units, round, sum, neg, add, sub, mul, div, le, lt}
+use lib.Ieee.Fits.{up-pos, and-i, and-l, and-r, eq→eqb, round-is}
 use lib.Ieee.Exact.{HasValue, round-exact}
 use lib.Ieee.Order.{round-mono}
 use lib.Ieee.Scale.{finite, round-same}
-use lib.Ieee.Nearest.{div-mono as quot-mono}
 use lib.Ieee.Positive.{num, den, den-pos, positive, positive-finite}
 use Rattle.rules.specs.Floats.{Between}
 
@@ -476,24 +475,6 @@ div-neg-self f (fin true m e) q = absurd q
 div-neg-self f (fin false m e) q =
     let y = fin false m e in
     div-is f (fin true m e) y tt q ∙ round-same f true (num y * den y) (num y * den y) 1 1 (mul-pos (positive-num y q) (den-pos y)) (zero-lt-suc 0) (mul-comm (num y * den y) 1)
-
--- ---- the whole part
-pub whole-mono : (w : ℕ) (x y : Float) → T (finite x) → T (finite y) → T (le x y) → toUnsigned w x ≤ toUnsigned w y
-unfolding toUnsigned
-whole-mono w nan y p q h = absurd p
-whole-mono w (inf s) y p q h = absurd p
-whole-mono w (fin s m e) nan p q h = absurd q
-whole-mono w (fin s m e) (inf t) p q h = absurd q
-whole-mono w (fin true m e) (fin t n d) p q h = zero-le
-whole-mono w (fin false m e) (fin true n d) p q h =
-    let l = le→ (fin false m e) (fin true n d) tt tt h in
-    let z : m * up e ≡ 0 = vanish (m * up e) (down d) (n * up d * down e) (down-pos d) (omega arith) in
-    let k : m * up e / down e ≤ 0 / 1 = quot-mono (m * up e) (down e) 0 1 (down-pos e) (zero-lt-suc 0) (omega arith) in
-    omega arith
-whole-mono w (fin false m e) (fin false n d) p q h =
-    let l = le→ (fin false m e) (fin false n d) tt tt h in
-    let k : m * up e / down e ≤ n * up d / down d = quot-mono (m * up e) (down e) (n * up d) (down d) (down-pos e) (down-pos d) (omega arith) in
-    omega arith
 
 -- ---- the strict order
 abbrev pub LtF : Float → Float → Type 0

@@ -1,8 +1,8 @@
--- `levels::chain::packing_code` meets its contract: one case a code. Assumes nothing.
+-- `levels::packing::packing_code` meets its contract: one case a code. Assumes nothing.
 use borrow.Author.Tests.{ne-eqb}
 use Rattle.rules.specs.Packing.{packingCode}
-use Rattle.levels.proofs.chain.packing_code.Statement.{statement}
-use Rattle.levels.proofs.chain.packing_code.Tie as tie
+use Rattle.levels.proofs.packing.packing_code.Statement.{statement}
+use Rattle.levels.proofs.packing.packing_code.Tie as tie
 
 returns : tie.Need-returns
 unfolding packingCode
