@@ -28,7 +28,7 @@ unfolding over cellOf next grid written
 over-written reduce faces w h old = refl
 
 -- a row below the last has its texels in the level
-row-in : {r n : ℕ} (w : ℕ) → r < n → r * w + w ≤ n * w
+pub row-in : {r n : ℕ} (w : ℕ) → r < n → r * w + w ≤ n * w
 row-in {r} w lt = omega (arith, mul-le-mul-right w lt, suc-mul r w)
 
 -- y rows are written: of the level's w by h faces, n texels in all
@@ -93,17 +93,12 @@ module _ {reduce : ℕ → ℕ → ℕ → ℕ → ℕ} {faces w h w2 h2 n : ℕ
   read r x le lt =
       rw (getD-drop (r * w) s x 0, over-same (t .run) (r * w + x) (omega arith)) (sym (getD-take n old (r * w + x) 0 (omega arith)))
 
-  pub rows-more : y < faces * h2 → (j : ℕ) (u : List ℕ) → j ≡ min (2 * (y % h2) + 1) (h - 1)
-      → u ≡ over (n + y * w2) s (half w) (heldOf reduce w (drop ((y / h2 * h + 2 * (y % h2)) * w) s) (drop ((y / h2 * h + j) * w) s))
-      → Rows reduce faces w h w2 h2 n old u (y + 1)
+  -- a texel of the row that is made of them is one of the next level
+  pub held-cell : y < faces * h2 → (j : ℕ) → j ≡ min (2 * (y % h2) + 1) (h - 1) → (k : ℕ) → k < half w
+      → heldOf reduce w (drop ((y / h2 * h + 2 * (y % h2)) * w) s) (drop ((y / h2 * h + j) * w) s) k ≡ cellOf reduce w h w2 h2 (take n old) (y * w2 + k)
   unfolding heldOf cellOf quad texel
-  rows-more lt j u ej eu =
+  held-cell lt j ej k l =
       let p = rows-places lt ej in
-      let f = cellOf reduce w h w2 h2 (take n old) in
-      let g = heldOf reduce w (drop ((y / h2 * h + 2 * (y % h2)) * w) s) (drop ((y / h2 * h + j) * w) s) in
-      let more : (y + 1) * w2 ≡ y * w2 + half w = rw (add-one y, suc-mul y w2) (omega (arith, t .half-w)) in
-      let same : (k : ℕ) → k < half w → g k ≡ f (y * w2 + k)
-      = λ k l.
       let kw : k < w2 = omega (arith, t .half-w) in
       let x₀ : 2 * k < w = omega (arith, t .sides) in
       let x₁ : min (2 * k + 1) (w - 1) < w = omega (arith, t .sides) in
@@ -117,7 +112,14 @@ module _ {reduce : ℕ → ℕ → ℕ → ℕ → ℕ} {faces w h w2 h2 n : ℕ
         read r₁ (2 * k) (p .texels1) x₀,
         read r₁ (min (2 * k + 1) (w - 1)) (p .texels1) x₁,
         ej,
-      ) in
+      )
+
+  pub rows-more : y < faces * h2 → (j : ℕ) (u : List ℕ) → j ≡ min (2 * (y % h2) + 1) (h - 1)
+      → u ≡ over (n + y * w2) s (half w) (heldOf reduce w (drop ((y / h2 * h + 2 * (y % h2)) * w) s) (drop ((y / h2 * h + j) * w) s))
+      → Rows reduce faces w h w2 h2 n old u (y + 1)
+  rows-more lt j u ej eu =
+      let p = rows-places lt ej in
+      let more : (y + 1) * w2 ≡ y * w2 + half w = rw (add-one y, suc-mul y w2) (omega (arith, t .half-w)) in
       record {
         sides = t .sides;
         half-w = t .half-w;
@@ -125,7 +127,7 @@ module _ {reduce : ℕ → ℕ → ℕ → ℕ → ℕ} {faces w h w2 h2 n : ℕ
         here = t .here;
         below = omega arith;
         room = t .room;
-        run = rw more (over-more (t .run) (n + y * w2) (half w) g u refl eu (omega (arith, p .goes, t .half-w)) same);
+        run = rw more (over-more (t .run) (n + y * w2) (half w) _ u refl eu (omega (arith, p .goes, t .half-w)) (held-cell lt j ej));
       }
 
   -- all rows are written

@@ -46,15 +46,19 @@ module _ (reduce : ℕ → ℕ → ℕ → ℕ → ℕ) where
         g (r1 + 2 * x) r1 (2 * k + 1) (2 * (x + k) + 1) (omega arith) (omega arith),
       )
 
-  -- m texels made in the part o, and put behind
+  -- m texels made in the part o
+  pub part-at : (r0 r1 m : ℕ) (s buf o : List ℕ)
+      → o ≡ over 0 buf m (pairOf reduce (take (length s - r0) (drop r0 s)) (take (length s - r1) (drop r1 s)))
+      → (k : ℕ) → k < m → getD o k 0 ≡ pairOf reduce (drop r0 s) (drop r1 s) k
+  part-at r0 r1 m s buf o eo k lt = rw (eo, part-to-end s r0, part-to-end s r1) (front-at buf m (pairOf reduce (drop r0 s) (drop r1 s)) k lt)
+
+  -- and put behind
   pub part-is : (to r0 r1 m : ℕ) (s buf o t : List ℕ)
       → o ≡ over 0 buf m (pairOf reduce (take (length s - r0) (drop r0 s)) (take (length s - r1) (drop r1 s)))
       → t ≡ over to s m (λ k. getD o k 0)
       → t ≡ over to s m (pairOf reduce (drop r0 s) (drop r1 s))
   part-is to r0 r1 m s buf o t eo et =
-      et
-      ∙ over-ext to s m (λ k. getD o k 0) (pairOf reduce (drop r0 s) (drop r1 s))
-      (λ k lt. rw (eo, part-to-end s r0, part-to-end s r1) (front-at buf m (pairOf reduce (drop r0 s) (drop r1 s)) k lt))
+      et ∙ over-ext to s m (λ k. getD o k 0) (pairOf reduce (drop r0 s) (drop r1 s)) (part-at r0 r1 m s buf o eo)
 
   -- a turn of the loop over a row: a part of m texels
   pub row-turn : (to r0 r1 n x m : ℕ) (old s t : List ℕ)
@@ -72,22 +76,24 @@ module _ (reduce : ℕ → ℕ → ℕ → ℕ → ℕ) where
   two-columns p q m t em et = rw (et, em) (over-within 4 (columns p q) 1 (pairOf reduce (drop 0 (columns p q)) (drop 2 (columns p q))) 0 (lit≤ tt) (lit< tt))
 
   -- a row one wide: both places of a pair are its one texel
+  pub narrow-at : (r0 r1 : ℕ) (s : List ℕ) → reduce (getD s r0 0) (getD s r0 0) (getD s r1 0) (getD s r1 0) ≡ heldOf reduce 1 (drop r0 s) (drop r1 s) 0
+  unfolding heldOf
+  narrow-at r0 r1 s = rw (getD-drop r0 s 0 0, getD-drop r1 s 0 0, add-zero r0, add-zero r1)
+
   pub narrow-is : (to r0 r1 v : ℕ) (s : List ℕ) → to < length s → v ≡ reduce (getD s r0 0) (getD s r0 0) (getD s r1 0) (getD s r1 0)
       → set s to v ≡ over to s 1 (heldOf reduce 1 (drop r0 s) (drop r1 s))
-  unfolding heldOf
-  narrow-is to r0 r1 v s lt e =
-      over-one to s (heldOf reduce 1 (drop r0 s) (drop r1 s)) v lt (e ∙ rw (getD-drop r0 s 0 0, getD-drop r1 s 0 0, add-zero r0, add-zero r1))
+  narrow-is to r0 r1 v s lt e = over-one to s (heldOf reduce 1 (drop r0 s) (drop r1 s)) v lt (e ∙ narrow-at r0 r1 s)
 
   -- rows of two and more: no place is held
+  pub wide-at : (w : ℕ) (a b : List ℕ) (k : ℕ) → k < w / 2 → pairOf reduce a b k ≡ heldOf reduce w a b k
+  unfolding pairOf heldOf
+  wide-at w a b k lt = let x : min (2 * k + 1) (w - 1) ≡ 2 * k + 1 = omega arith in rw x
+
   pub wide-is : (to w r0 r1 : ℕ) (s t : List ℕ) → 2 ≤ w
       → t ≡ over to s (w / 2) (pairOf reduce (drop r0 s) (drop r1 s)) → t ≡ over to s (half w) (heldOf reduce w (drop r0 s) (drop r1 s))
-  unfolding pairOf heldOf
   wide-is to w r0 r1 s t le e =
       let z : half w ≡ w / 2 = omega arith in
-      rw z
-      (e
-      ∙ over-ext to s (w / 2) (pairOf reduce (drop r0 s) (drop r1 s)) (heldOf reduce w (drop r0 s) (drop r1 s))
-      (λ k lt. let x : min (2 * k + 1) (w - 1) ≡ 2 * k + 1 = omega arith in rw x))
+      rw z (e ∙ over-ext to s (w / 2) (pairOf reduce (drop r0 s) (drop r1 s)) (heldOf reduce w (drop r0 s) (drop r1 s)) (wide-at w (drop r0 s) (drop r1 s)))
 
   -- rows of one: its texel is held
   pub one-is : (to w r0 r1 : ℕ) (s t : List ℕ) → 1 ≤ w → w < 2

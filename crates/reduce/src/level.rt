@@ -24,7 +24,7 @@ pub fn size(faces: usize, w: usize, h: usize) -> usize
 }
 
 // y1 = min(2y + 1, previous height - 1)
-fn second(y: usize, h: usize) -> usize
+pub fn second(y: usize, h: usize) -> usize
     requires { ⌜ (1 ≤ h) × (y < half h) × (h ≤ 4096) ⌝ }
     ensures { λ r. ⌜ r ≡ min (2 * y + 1) (h - 1) ⌝ }
 {

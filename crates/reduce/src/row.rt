@@ -9,7 +9,7 @@ ghost use Rattle.kinds.specs.Runs.{over, pairOf};
 ghost use Rattle.reduce.specs.Rows.{heldOf};
 
 // The smaller of two numbers.
-fn least(a: usize, b: usize) -> usize
+pub fn least(a: usize, b: usize) -> usize
     ensures { λ r. ⌜ r ≡ min a b ⌝ }
 {
     if a < b { a } else { b }
@@ -90,6 +90,16 @@ fn srgb_texel(packing: Packing, p: u32, q: u32) -> u32
     rows[4]
 }
 
+// The same by any kind.
+pub fn texel_of_one(kind: u32, packing: Packing, p: u32, q: u32) -> u32
+    ensures { λ v. ⌜ v ≡ reduceOf kind packing p p q q ⌝ }
+{
+    match kind {
+        0 => srgb_texel(packing, p, q),
+        _ => kinds::reduce_without_table(kind, packing, p, p, q, q),
+    }
+}
+
 // The one texel of a row whose sources are one wide.
 fn narrow(kind: u32, packing: Packing, r0: usize, r1: usize, to: usize, s: &mut [u32])
     requires { ⌜ (r0 < to) × (r1 < to) × (to < length (now s)) ⌝ }
@@ -97,11 +107,7 @@ fn narrow(kind: u32, packing: Packing, r0: usize, r1: usize, to: usize, s: &mut 
 {
     let p = s[r0];
     let q = s[r1];
-    let v = match kind {
-        0 => srgb_texel(packing, p, q),
-        _ => kinds::reduce_without_table(kind, packing, p, p, q, q),
-    };
-    s[to] = v;
+    s[to] = texel_of_one(kind, packing, p, q);
 }
 
 // The row at `to`, from the rows w wide at r0 and r1.

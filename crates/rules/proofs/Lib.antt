@@ -18,3 +18,4 @@ pub mod Cut
 pub mod Laws
 pub mod Views
 pub mod Calls
+pub mod Checks

@@ -17,6 +17,8 @@ use Rattle.rules.specs.declared.Filled.{Filled}
 use Rattle.rules.specs.declared.Filled.the-variants.{Texels, Refused as NoTexels}
 use Rattle.rules.specs.declared.Written.{Written}
 use Rattle.rules.specs.declared.Written.the-variants.{Bytes, Refused as NoBytes}
+use Rattle.rules.specs.declared.Checked.{Checked}
+use Rattle.rules.specs.declared.Checked.the-variants.{Of as Judged, Refused as NotJudged}
 use Rattle.rules.specs.declared.Level.{Level as LevelAnswer}
 use Rattle.rules.specs.declared.Level.the-variants.{At, Refused as NoLevel}
 use Rattle.rules.specs.declared.Colour.{Colour}
@@ -33,6 +35,7 @@ use Rattle.rules.specs.Cuts.{cut}
 use Rattle.rules.specs.View.{faceView}
 use Rattle.rules.specs.Packing.{packingOf}
 use Rattle.rules.specs.Pictures.{filledOf}
+use Rattle.rules.specs.Checks.{levelVerdictOf, chainVerdictOf}
 use Rattle.rules.specs.Cross.{crossWidth, crossHeight, crossOf}
 use Rattle.rules.specs.Lanes.{lanesOf, rgbLanes}
 use Rattle.rules.specs.Wrapping.{modeOf}
@@ -43,7 +46,7 @@ use Rattle.rules.specs.Faces.{spotOf}
 use Rattle.rules.specs.Cubemap.{cubemapRgb, trilinearRgb}
 use Rattle.rules.specs.Ranges.{rangesOf, rangesSize, replaced, rangeReplaced}
 use Rattle.rules.specs.Irradiance.{irradianceOf}
-use Rattle.rules.specs.Refusals.{mipmapsRefusal, levelSizesRefusal, viewRefusal, cutCallRefusal, crossRefusal, mipLevelRefusal, sample4Refusal, bilinearRgbRefusal, bilinearAlphaRefusal, directionsRefusal, cubemapRefusal, trilinearRefusal, rangesRefusal, replaceRefusal, irradianceRefusal}
+use Rattle.rules.specs.Refusals.{mipmapsRefusal, checkLevelRefusal, levelSizesRefusal, viewRefusal, cutCallRefusal, crossRefusal, mipLevelRefusal, sample4Refusal, bilinearRgbRefusal, bilinearAlphaRefusal, directionsRefusal, cubemapRefusal, trilinearRefusal, rangesRefusal, replaceRefusal, irradianceRefusal}
 
 -- the answer where the refusal number is 0, and else what is answered for that number
 unfoldable pub answer : {A : Type 0} → ℕ → (ℕ → A) → A → A
@@ -65,6 +68,15 @@ chainAnswer kind w h mode l = answer (mipmapsRefusal kind w h mode (length l)) N
 
 unfoldable pub chainLeaves : ℕ → ℕ → ℕ → ℕ → List ℕ → List ℕ
 chainLeaves kind w h mode l = leaves (mipmapsRefusal kind w h mode (length l)) l (filledOf kind (packingOf mode) w h l)
+
+-- check_chain judges every level by the packing mode, check_level one
+unfoldable pub checkChainAnswer : ℕ → ℕ → ℕ → ℕ → List ℕ → Checked
+checkChainAnswer kind w h mode l =
+    answer (mipmapsRefusal kind w h mode (length l)) NotJudged (Judged (chainVerdictOf kind (packingOf mode) w h l))
+
+unfoldable pub checkLevelAnswer : ℕ → ℕ → ℕ → ℕ → List ℕ → ℕ → Checked
+checkLevelAnswer kind w h mode l m =
+    answer (checkLevelRefusal kind w h mode (length l) m) NotJudged (Judged (levelVerdictOf kind (packingOf mode) w h l m))
 
 -- the level view, and an empty part where it refuses
 unfoldable pub viewAnswer : ℕ → ℕ → ℕ → List ℕ → ℕ → ℕ → List ℕ

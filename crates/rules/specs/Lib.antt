@@ -22,6 +22,7 @@ pub mod Faces
 pub mod Cubemap
 pub mod Ranges
 pub mod Irradiance
+pub mod Checks
 pub mod Refusals
 pub mod Answers
 pub mod Series

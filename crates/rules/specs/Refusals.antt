@@ -126,9 +126,13 @@ pictureRefusal kind w h = kindRefusal kind orElse sidesRefusal w h
 unfoldable pub chainRefusal : ℕ → ℕ → ℕ → ℕ → ℕ
 chainRefusal kind w h n = pictureRefusal kind w h orElse bufferRefusal (count (facesOf kind) w h) n
 
--- generate_mipmaps: 1, 2, 3, 15
+-- generate_mipmaps, check_chain: 1, 2, 3, 15
 unfoldable pub mipmapsRefusal : ℕ → ℕ → ℕ → ℕ → ℕ → ℕ
 mipmapsRefusal kind w h mode n = chainRefusal kind w h n orElse modeRefusal mode
+
+-- check_level: 1, 2, 3, 15, 6
+unfoldable pub checkLevelRefusal : ℕ → ℕ → ℕ → ℕ → ℕ → ℕ → ℕ
+checkLevelRefusal kind w h mode n m = mipmapsRefusal kind w h mode n orElse levelRefusal w h m
 
 -- level_sizes: 1, 2, 6
 unfoldable pub levelSizesRefusal : ℕ → ℕ → ℕ → ℕ → ℕ

@@ -111,6 +111,17 @@ pub enum PackingCode {
     Refused(u32),
 }
 
+// Whether a level, or each level of a chain, follows from the one before; else the first wrong texel's place.
+pub enum Verdict {
+    Follows,
+    WrongAt(usize),
+}
+
+pub enum Checked {
+    Of(Verdict),
+    Refused(u32),
+}
+
 // A level within a chain: where it starts, and its faces and their sides.
 pub struct Plane {
     pub start: usize,

@@ -1,0 +1,137 @@
+-- `reduce::check_level::check_next` meets its contract. The invariant: y rows of all faces stand there. The measure is the rows left.
+-- Assumes nothing.
+use mathlib.Core.Path.{refl}
+use Prim.Native.Nat.{_*_, _-_}
+use native.Mathlib.Nat.{mul-le-mul}
+use native.Mathlib.Omega.{arith}
+use borrow.Author.Needs.{needs}
+use Rattle.rules.specs.Reducing.{reduceOf}
+use Rattle.reduce.proofs.Bounds.{half-most}
+use Rattle.reduce.proofs.Levels.{Rows, Places, rows-first, rows-places}
+use Rattle.reduce.proofs.RightLevels.{rows-right, row-more, row-stop}
+use Rattle.reduce.proofs.check_level.check_next.Statement.{statement}
+use Rattle.reduce.proofs.check_level.check_next.Tie as tie
+
+abbrev Inv-loop : tie.InvT-loop
+Inv-loop kind packing faces w h s w2 h2 n rows y₀ y = Rows (reduceOf kind packing) faces w h w2 h2 n s s y
+
+abbrev μ-loop : tie.MeasureT-loop
+μ-loop kind packing faces w h s w2 h2 n rows y₀ y = faces * h2 - y
+
+halved-requires : tie.Need-halved-requires Inv-loop μ-loop
+halved-requires c κs = search needs
+
+halved-requires-2 : tie.Need-halved-requires-2 Inv-loop μ-loop
+halved-requires-2 c κs = search needs
+
+size-requires : tie.Need-size-requires Inv-loop μ-loop
+size-requires c κs = search needs
+
+mul-rows : tie.Need-mul-rows Inv-loop μ-loop
+mul-rows c =
+    let start = c .before .before .before .before in
+    rw (c .before .halved2 .ensures) (omega (arith, mul-le-mul (start .pre .0 .most-f) (half-most (start .pre .0))))
+
+loop-holds : tie.Need-loop-holds Inv-loop μ-loop
+loop-holds c =
+    let start = c .before .before .before .before in
+    rows-first _ _ _ _ _ _ _ _ (start .pre .0) (c .before .before .halved .ensures) (c .before .halved2 .ensures) (c .size .ensures) (start .pre .1)
+
+div-top : tie.Need-div-top Inv-loop μ-loop
+div-top c = omega arith
+
+mul-top : tie.Need-mul-top Inv-loop μ-loop
+mul-top c = omega (arith, rows-places (c .before .loop .inv) (c .loop-test .taken) refl)
+
+rem-i : tie.Need-rem-i Inv-loop μ-loop
+rem-i c = omega arith
+
+second-requires : tie.Need-second-requires Inv-loop μ-loop
+second-requires c κs = omega (arith, rows-places (c .before .loop .inv) (c .loop-test .taken) refl)
+
+-- where the row is read and where it stands
+places : (c : tie.After-second Inv-loop μ-loop)
+    → let start = c .before .before .before .before .before .before .before .args in
+    let size = c .before .before .before in
+    Places (start .faces) (start .w) (start .h) (size .before .before .halved .result) (size .before .halved2 .result) (size .size .result) (c .before .before .loop .y) (c .second .result) (start .s .now)
+places c = rows-places (c .before .before .loop .inv) (c .before .loop-test .taken) (c .second .ensures)
+
+mul-check-row : tie.Need-mul-check-row Inv-loop μ-loop
+mul-check-row c = omega (arith, places c)
+
+add-check-row : tie.Need-add-check-row Inv-loop μ-loop
+add-check-row c = omega (arith, places c)
+
+mul-check-row-2 : tie.Need-mul-check-row-2 Inv-loop μ-loop
+mul-check-row-2 c = omega (arith, places c)
+
+add-check-row-2 : tie.Need-add-check-row-2 Inv-loop μ-loop
+add-check-row-2 c = omega (arith, places c)
+
+mul-check-row-3 : tie.Need-mul-check-row-3 Inv-loop μ-loop
+mul-check-row-3 c = omega (arith, places c)
+
+mul-check-row-4 : tie.Need-mul-check-row-4 Inv-loop μ-loop
+mul-check-row-4 c = omega (arith, places c)
+
+add-check-row-3 : tie.Need-add-check-row-3 Inv-loop μ-loop
+add-check-row-3 c = omega (arith, places c)
+
+check-row-requires : tie.Need-check-row-requires Inv-loop μ-loop
+check-row-requires c κs = omega (arith, places c)
+
+mul-result : tie.Need-mul-result Inv-loop μ-loop
+mul-result c = omega (arith, places (c .before .before))
+
+add-result : tie.Need-add-result Inv-loop μ-loop
+add-result c = omega (arith, places (c .before .before), c .before .check-row .ensures)
+
+returns : tie.Need-returns Inv-loop μ-loop
+returns c = row-stop (c .before .before .before .before .loop .inv) (c .before .before .before .loop-test .taken) _ _ (c .before .before .second .ensures) (c .before .check-row .ensures) (c .if1 .taken)
+
+add-y : tie.Need-add-y Inv-loop μ-loop
+add-y c = omega (arith, places (c .before .before))
+
+loop-less : tie.Need-loop-less Inv-loop μ-loop
+loop-less c = omega arith
+
+loop-again : tie.Need-loop-again Inv-loop μ-loop
+loop-again c = row-more (c .before .before .before .before .loop .inv) (c .before .before .before .loop-test .taken) _ _ (c .before .before .second .ensures) (c .before .check-row .ensures) (c .if1 .left)
+
+mul-result-2 : tie.Need-mul-result-2 Inv-loop μ-loop
+mul-result-2 c = omega (arith, c .before .loop .inv .room)
+
+returns-2 : tie.Need-returns-2 Inv-loop μ-loop
+returns-2 c = rows-right (c .before .loop .inv) (c .loop-test .left)
+
+pub check-next-spec : {M : Type 1} → statement M
+check-next-spec =
+    tie.close
+    (tie.spec
+    Inv-loop
+    μ-loop
+    halved-requires
+    halved-requires-2
+    size-requires
+    mul-rows
+    loop-holds
+    div-top
+    mul-top
+    rem-i
+    second-requires
+    mul-check-row
+    add-check-row
+    mul-check-row-2
+    add-check-row-2
+    mul-check-row-3
+    mul-check-row-4
+    add-check-row-3
+    check-row-requires
+    mul-result
+    add-result
+    returns
+    add-y
+    loop-less
+    loop-again
+    mul-result-2
+    returns-2)

@@ -1,0 +1,26 @@
+-- `reduce::check_row::check_row` meets its contract: sources one wide, or wider. Assumes nothing.
+use native.Mathlib.Omega.{arith}
+use borrow.Author.Needs.{needs}
+use Rattle.rules.specs.Reducing.{reduceOf}
+use Rattle.reduce.proofs.Rights.{one-right, wide-right}
+use Rattle.reduce.proofs.check_row.check_row.Statement.{statement}
+use Rattle.reduce.proofs.check_row.check_row.Tie as tie
+
+check-narrow-requires : tie.Need-check-narrow-requires
+check-narrow-requires c κs = search needs
+
+returns : tie.Need-returns
+returns c =
+    let a = c .before .before .before .args in
+    one-right (reduceOf (a .kind) (a .packing)) (a .r0) (a .r1) (a .s .now) (omega arith) (omega arith) (c .check-narrow .ensures)
+
+check-whole-requires : tie.Need-check-whole-requires
+check-whole-requires c κs = search needs
+
+returns-2 : tie.Need-returns-2
+returns-2 c =
+    let a = c .before .before .before .args in
+    wide-right (reduceOf (a .kind) (a .packing)) (a .r0) (a .r1) (a .s .now) (omega arith) (c .check-whole .ensures)
+
+pub check-row-spec : {M : Type 1} → statement M
+check-row-spec = tie.close (tie.spec check-narrow-requires returns check-whole-requires returns-2)
