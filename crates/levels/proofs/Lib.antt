@@ -5,3 +5,4 @@ pub mod Viewing
 pub mod Rows
 pub mod Cuts
 pub mod Crosses
+pub mod Checks

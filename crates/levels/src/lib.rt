@@ -1,5 +1,6 @@
-// Levels of a picture that lies in a lent buffer: their sizes, the chain, the view, the cut and the cross.
+// Levels of a picture that lies in a lent buffer: their sizes, the chain and its check, the view, the cut and the cross.
 pub mod chain;
+pub mod check;
 pub mod cross;
 pub mod cut;
 pub mod packing;

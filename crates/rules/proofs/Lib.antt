@@ -19,3 +19,7 @@ pub mod Laws
 pub mod Views
 pub mod Calls
 pub mod Checks
+pub mod Following
+pub mod OneWrong
+pub mod RefusingChecks
+pub mod Accepting

@@ -23,7 +23,7 @@ use Rattle.rules.proofs.Laws.{length-chainOf, chain-holds}
 -- ---- the chain call
 
 -- a part that lies in the first of two lists
-part-front : (n s : ℕ) (l rest : List ℕ) → n + s ≤ length l → take s (drop n (l ++ rest)) ≡ take s (drop n l)
+pub part-front : (n s : ℕ) (l rest : List ℕ) → n + s ≤ length l → take s (drop n (l ++ rest)) ≡ take s (drop n l)
 part-front n s l rest le =
     let inside : n ≤ length l = omega arith in
     let whole : s ≤ length (drop n l) = rw (length-drop n l) (omega arith) in

@@ -2,7 +2,7 @@
 use mathlib.Core.Path.{_≡_}
 use mathlib.Core.Bool.{Bool, cond}
 use mathlib.Core.List.{List}
-use Prim.Native.Nat.{ℕ, zero, suc, _-_, _≤_, _<_}
+use Prim.Native.Nat.{ℕ, zero, suc, _+_, _-_, _*_, _/_, _%_, _≤_, _<_}
 use lib.Dec.{eqb}
 use lib.ListN.{getD, take, drop}
 use Rattle.rules.specs.declared.Packing.{Packing}
@@ -50,6 +50,15 @@ module _ (reduce : ℕ → ℕ → ℕ → ℕ → ℕ) (faces w h : ℕ) (l : L
     pub from : start faces w h (suc m) ≤ i
     pub before : i < start faces w h (suc (suc m))
     pub differs : getD l i 0 ≡ due m i → ⊥
+
+-- the place in level m + 1 of the one texel, if any, that is made from the texel at place i of level m
+unfoldable pub child : ℕ → ℕ → ℕ → ℕ → ℕ → ℕ
+child faces w h m i =
+    let k = i - start faces w h m in
+    let f = k / sideAt m w / sideAt m h in
+    let x = k % sideAt m w in
+    let y = k / sideAt m w % sideAt m h in
+    start faces w h (suc m) + ((f * sideAt (suc m) h + y / 2) * sideAt (suc m) w + x / 2)
 
 -- by kind and packing mode: one level, and the whole chain
 unfoldable pub levelVerdictOf : ℕ → Packing → ℕ → ℕ → List ℕ → ℕ → Verdict
