@@ -12,15 +12,21 @@ use lib.ListN.{length, getD, take, drop, length-drop}
 use lib.Seq.{getD-drop}
 use Rattle.rules.specs.declared.Verdict.{Verdict}
 use Rattle.rules.specs.declared.Verdict.the-variants.{Follows, WrongAt}
+use Rattle.rules.specs.Kinds.{facesOf}
 use Rattle.rules.specs.Sizes.{sideAt, half, top, sizeAt, start, count}
 use Rattle.rules.specs.Levels.{next}
 use Rattle.rules.specs.Checks.{standing, rightAt, levelVerdict}
 use Rattle.rules.proofs.Sides.{side-pos, side-le, half-side, start-suc}
-use Rattle.rules.proofs.Bounds.{top-most, level-end}
+use Rattle.rules.proofs.Refusing.{Chained}
+use Rattle.rules.proofs.Bounds.{faces-some, faces-most, top-most, level-end}
 use Rattle.rules.proofs.Checks.{first-none, first-some, due-at}
 use Rattle.kinds.proofs.Runs.{over-within}
 use Rattle.reduce.specs.Levels.{Sides}
 use Rattle.reduce.specs.Right.{Right}
+
+-- what `check_next` asks of a picture that is taken
+pub sides-of : {kind w h n : ℕ} → Chained kind w h n → Sides (facesOf kind) w h
+sides-of {kind} c = omega (arith, c .taken, faces-some kind, faces-most kind)
 
 -- where a level that is not level 0 stands, in a buffer of n entries, and the level before it
 pub record Behind (faces w h level n : ℕ) : Type 0 where

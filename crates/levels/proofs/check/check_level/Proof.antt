@@ -1,52 +1,61 @@
+-- `levels::check::check_level` meets its contract: the same, of one level that there is. Assumes nothing.
+use mathlib.Core.Path.{sym, _∙_}
+use native.Mathlib.Omega.{arith}
 use borrow.Author.Needs.{needs}
+use lib.ListN.{length}
+use Rattle.rules.proofs.Refusing.{Chained, chain-facts, level-facts}
+use Rattle.levels.proofs.Passing.{passed, check-stops, check-mode-stops, check-level-stops, check-level-goes}
+use Rattle.levels.proofs.Checks.{sides-of}
 use Rattle.levels.proofs.check.check_level.Statement.{statement}
 use Rattle.levels.proofs.check.check_level.Tie as tie
-use Rattle.levels.proofs.check.check_level.Reads as reads
-use Rattle.levels.proofs.check.check_level.Lts as lts
-use Rattle.levels.proofs.check.level_verdict.Reads as level-verdict-reads
-use Rattle.levels.proofs.packing.packing_code.Reads as packing-code-reads
-use Rattle.levels.proofs.refusals.chain_refusal.Reads as chain-refusal-reads
-use Rattle.levels.proofs.refusals.level_refusal.Reads as level-refusal-reads
 
--- src/check.rt:94:9
 chain-refusal-requires : tie.Need-chain-refusal-requires
 chain-refusal-requires c κs = search needs
 
--- src/check.rt:96:9
 returns : tie.Need-returns
-returns c = ?
+returns c = check-stops _ _ _ _ _ (c .before .chain-refusal .ensures) (c .if1 .taken) .1 _
 
--- src/check.rt:98:9
+-- past the first test nothing but the mode and the level is refused
+known : (c : tie.Else1) → let a = c .before .before .before .args in Chained (a .kind) (a .width) (a .height) (length (a .texels .now))
+known c = chain-facts _ _ _ _ (passed (c .before .chain-refusal .ensures) (c .if1 .left))
+
 level-refusal-requires : tie.Need-level-refusal-requires
 level-refusal-requires c κs = search needs
 
--- src/check.rt:99:11
 packing-code-requires : tie.Need-packing-code-requires
 packing-code-requires c κs = search needs
 
--- src/check.rt:100:25
 enum-known-packing : tie.Need-enum-known-packing
 enum-known-packing c = search needs
 
--- src/check.rt:102:17
 returns-2 : tie.Need-returns-2
-returns-2 c = ?
+returns-2 c =
+    let call = c .before .before .before .before in
+    let level = call .before in
+    let past = level .before in
+    check-level-stops _ _ _ _ _ (passed (past .before .chain-refusal .ensures) (past .if1 .left)) (sym (c .before .before .packing .given .1) ∙ call .packing-code .ensures) _ (level .level-refusal .ensures) (c .if2 .taken)
 
--- src/check.rt:104:25
 level-verdict-requires : tie.Need-level-verdict-requires
-level-verdict-requires c κs = ?
+level-verdict-requires c κs =
+    let level = c .before .before .before .before .before in
+    let k = known (level .before) in
+    (sides-of k, k .room, level-facts _ _ _ (passed (level .level-refusal .ensures) (c .if2 .left)))
 
--- src/check.rt:106:30
 enum-known-n : tie.Need-enum-known-n
 enum-known-n c = search needs
 
--- src/check.rt:84:1
 returns-3 : tie.Need-returns-3
-returns-3 c = ?
+returns-3 c =
+    let call = c .before .before .before .before .before in
+    let level = call .before in
+    let past = level .before in
+    check-level-goes _ _ _ _ _ (passed (past .before .chain-refusal .ensures) (past .if1 .left)) (sym (c .before .before .before .packing .given .1) ∙ call .packing-code .ensures) _ (level .level-refusal .ensures) (c .before .if2 .left) (c .level-verdict .ensures)
 
--- src/check.rt:84:1
 returns-4 : tie.Need-returns-4
-returns-4 c = ?
+returns-4 c =
+    let call = c .before .before .before in
+    let past = call .before .before in
+    check-mode-stops _ _ _ _ _ (passed (past .before .chain-refusal .ensures) (past .if1 .left)) (sym (c .before .n .given .1) ∙ call .packing-code .ensures) .1 _
 
 pub check-level-spec : {M : Type 1} → statement M
 check-level-spec =

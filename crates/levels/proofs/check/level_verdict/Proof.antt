@@ -1,12 +1,13 @@
 -- `levels::check::level_verdict` meets its contract: level 0 follows, and any other is judged behind the level before it. Assumes nothing.
 use mathlib.Core.Path.{_≡_, refl, sym, _∙_}
-use Prim.Native.Nat.{_+_, _≤_, _<_}
+use Prim.Native.Nat.{_+_, _-_, _*_, _≤_, _<_}
 use native.Mathlib.Omega.{arith}
 use borrow.Author.Needs.{needs}
 use borrow.Rule.Slice.PartAt.{part-to-end}
 use lib.ListN.{length, length-drop}
 use Rattle.rules.specs.declared.Verdict.the-variants.{Follows, WrongAt}
 use Rattle.rules.specs.Kinds.{facesOf}
+use Rattle.rules.specs.Sizes.{sideAt, half}
 use Rattle.rules.specs.Reducing.{reduceOf}
 use Rattle.rules.specs.Checks.{levelVerdict, levelVerdictOf}
 use Rattle.rules.proofs.Bounds.{top-most}
@@ -82,10 +83,22 @@ check-next-requires c κs =
     rw (part-to-end _ (starts .before .before .start-of .result), length-drop, starts .before .before .start-of .ensures, starts .before .before .before .before .before .faces-of .ensures, starts .before .before .before .before .side-at .ensures, starts .before .before .before .side-at2 .ensures)
     (k .sides, omega (arith, k .starts, k .ends, k .inside))
 
-add-place : tie.Need-add-place
-add-place c =
+-- where it stops lies in the buffer, or at its end
+ends : (c : tie.After-check-next)
+    → let starts = c .before .before in
+    starts .before .start-of2 .result + c .check-next .result ≤ length (starts .before .before .before .before .before .before .before .before .args .texels .now)
+ends c =
     let starts = c .before .before in
-    omega (arith, c .check-next .ensures .most)
+    let past = starts .before .before .before .before .before .before in
+    let a = past .before .before .args in
+    let k = known past in
+    let faces = starts .before .before .before .before .before .faces-of .ensures in
+    let most : c .check-next .result ≤ facesOf (a .kind) * half (sideAt (a .level - 1) (a .height)) * half (sideAt (a .level - 1) (a .width))
+    = rw (faces, starts .before .before .before .before .side-at .ensures, starts .before .before .before .side-at2 .ensures) at (c .check-next .ensures .most) in
+    rw (starts .before .start-of2 .ensures, faces) (omega (arith, most, k .ends, k .inside))
+
+add-place : tie.Need-add-place
+add-place c = omega (arith, ends c)
 
 -- what was found there, as the definition says it
 told : (c : tie.After-check-next)
