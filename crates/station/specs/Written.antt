@@ -15,6 +15,10 @@ use Rattle.rules.specs.declared.Filled.{Filled}
 use Rattle.rules.specs.declared.Filled.the-variants.{Texels, Refused as NoTexels}
 use Rattle.rules.specs.declared.Written.{Written}
 use Rattle.rules.specs.declared.Written.the-variants.{Bytes, Refused as NoBytes}
+use Rattle.rules.specs.declared.Verdict.{Verdict}
+use Rattle.rules.specs.declared.Verdict.the-variants.{Follows, WrongAt}
+use Rattle.rules.specs.declared.Checked.{Checked}
+use Rattle.rules.specs.declared.Checked.the-variants.{Of as Judged, Refused as NotJudged}
 use Rattle.rules.specs.declared.Level.{Level as LevelAnswer}
 use Rattle.rules.specs.declared.Level.the-variants.{At, Refused as NoLevel}
 use Rattle.rules.specs.declared.Colour.{Colour}
@@ -74,6 +78,19 @@ filledNumber (NoTexels n) = n
 abbrev pub filledWritten : Filled → ℕ → ℕ
 filledWritten (Texels n) found = n
 filledWritten (NoTexels n) found = found
+
+-- check_chain, check_level: 1 and 0 where it follows; else 0 and the first wrong texel's place
+abbrev pub verdictWords : Verdict → List ℕ
+verdictWords Follows = 1 ∷ 0 ∷ []
+verdictWords (WrongAt place) = 0 ∷ place ∷ []
+
+abbrev pub checkedNumber : Checked → ℕ
+checkedNumber (Judged v) = 0
+checkedNumber (NotJudged n) = n
+
+abbrev pub verdictWritten : Checked → List ℕ → List ℕ
+verdictWritten (Judged v) found = verdictWords v
+verdictWritten (NotJudged n) found = found
 
 -- build_ranges
 abbrev pub bytesNumber : Written → ℕ

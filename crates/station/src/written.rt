@@ -1,5 +1,6 @@
 // An answer handed out: its values through the out parameters, and 0; or its refusal number, and nothing written.
 use rules::Alpha;
+use rules::Checked;
 use rules::Colour;
 use rules::Facing;
 use rules::Filled;
@@ -7,9 +8,10 @@ use rules::Irradiance;
 use rules::Lanes;
 use rules::Level;
 use rules::Sizes;
+use rules::Verdict;
 use rules::Written;
 ghost use mathlib.Core.Path.{_≡_};
-ghost use Rattle.station.specs.Written.{sizesNumber, sizesWritten, filledNumber, filledWritten, bytesNumber, bytesWritten, levelNumber, levelWritten, colourNumber, colourWritten, alphaNumber, alphaWritten, facingNumber, uvWritten, facesWritten, lightNumber, lightWritten};
+ghost use Rattle.station.specs.Written.{sizesNumber, sizesWritten, filledNumber, filledWritten, verdictWords, checkedNumber, verdictWritten, bytesNumber, bytesWritten, levelNumber, levelWritten, colourNumber, colourWritten, alphaNumber, alphaWritten, facingNumber, uvWritten, facesWritten, lightNumber, lightWritten};
 
 pub fn sizes_out(answer: Sizes, sizes: &mut [u64; 4]) -> u32
     ensures number { λ r. ⌜ r ≡ sizesNumber answer ⌝ }
@@ -39,6 +41,29 @@ pub fn filled_out(answer: Filled, written: &mut u64) -> u32
             0
         }
         Filled::Refused(n) => n,
+    }
+}
+
+// What a verdict is at the boundary: 1 and 0, or 0 and the place.
+fn verdict_words(verdict: Verdict) -> [u64; 2]
+    ensures { λ r. ⌜ r ≡ verdictWords verdict ⌝ }
+{
+    match verdict {
+        Verdict::Follows => [1, 0],
+        Verdict::WrongAt(place) => [0, place as u64],
+    }
+}
+
+pub fn checked_out(answer: Checked, verdict: &mut [u64; 2]) -> u32
+    ensures number { λ r. ⌜ r ≡ checkedNumber answer ⌝ }
+    ensures writes { λ _. ⌜ now (verdict .exit) ≡ verdictWritten answer (now (verdict .entry)) ⌝ }
+{
+    match answer {
+        Checked::Of(v) => {
+            *verdict = verdict_words(v);
+            0
+        }
+        Checked::Refused(n) => n,
     }
 }
 

@@ -1,6 +1,8 @@
 // The texture unit: every public call, and the records and answers of the calls. No call has a `requires`; what each answers and
 // what it leaves in the buffers that it was lent is said in crates/rules/specs/Answers.antt.
 pub use levels::chain::generate_mipmaps;
+pub use levels::check::check_chain;
+pub use levels::check::check_level;
 pub use levels::cross::cut_cross;
 pub use levels::cut::cut;
 pub use levels::sizes::level_sizes;
@@ -15,6 +17,7 @@ pub use lookups::sample_cubemap_trilinear_rgb;
 pub use lookups::sample4_alpha;
 pub use lookups::sample4_rgb;
 pub use rules::Alpha;
+pub use rules::Checked;
 pub use rules::Colour;
 pub use rules::Directions;
 pub use rules::Facing;
@@ -25,5 +28,6 @@ pub use rules::Pair;
 pub use rules::Sampler;
 pub use rules::Sizes;
 pub use rules::Spots;
+pub use rules::Verdict;
 pub use rules::Wholes;
 pub use texel::curve::srgb_to_linear;
