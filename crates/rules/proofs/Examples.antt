@@ -17,6 +17,8 @@ use Rattle.rules.specs.Whole.{upwardOf}
 use Rattle.rules.specs.Packing.{packingCode, packOf}
 use Rattle.rules.specs.Reducing.{eachOf, meanByte, linearOf, normalMean, normalByte, normalOf, reduceOf}
 use Rattle.rules.specs.Pictures.{chainOf, filledOf}
+use Rattle.rules.specs.declared.Verdict.the-variants.{Follows, WrongAt}
+use Rattle.rules.specs.Checks.{standing, firstWrong, due, levelVerdict, levelsVerdict, child}
 use Rattle.rules.specs.Wrapping.{wrapCode, modeOf, remainderOf, mirroredOf, wrapOf}
 use Rattle.rules.specs.Faces.{signOf, oddOf, spotAt, spotOf}
 use Rattle.rules.specs.Ranges.{tile, smallest, largest, rangeOf, joined, rangesOf, rangesSize, rangeStart, replaced, rangeReplaced}
@@ -24,7 +26,7 @@ use Rattle.rules.specs.NearestValue.{units, reaches, found, rootPattern}
 use Rattle.rules.specs.Root.{sqrtOf}
 use Rattle.rules.specs.Curve.{curvePattern, curve}
 use Rattle.rules.specs.Irradiance.{omegaOf, centreOf, distanceOf, weightOf, towards, dividedBy, basisOf, placeBasis, decodedOf, gets, allGet, inTurn, withTexel, sumsOf, timesBoth, foldedOf, irradianceOf}
-use Rattle.rules.specs.Refusals.{_orElse_, kindRefusal, sidesRefusal, bufferRefusal, levelRefusal, faceRefusal, noCubemapRefusal, cutRefusal, outsideRefusal, modeRefusal, pictureRefusal, chainRefusal, mipmapsRefusal, viewRefusal, cutCallRefusal, rangesRefusal, replaceRefusal}
+use Rattle.rules.specs.Refusals.{_orElse_, kindRefusal, sidesRefusal, bufferRefusal, levelRefusal, faceRefusal, noCubemapRefusal, cutRefusal, outsideRefusal, modeRefusal, pictureRefusal, chainRefusal, mipmapsRefusal, checkLevelRefusal, viewRefusal, cutCallRefusal, rangesRefusal, replaceRefusal}
 use Rattle.rules.specs.Answers.{answer, chainLeaves, viewAnswer, cutLeaves, rangesLeaves, replaceRangesLeaves}
 
 -- ---- sizes
@@ -103,6 +105,11 @@ mipmaps-order : (mipmapsRefusal linear 1 1 2 0 ≡ 3) × (mipmapsRefusal linear 
 unfolding mipmapsRefusal modeRefusal packingCode chainRefusal pictureRefusal kindRefusal sidesRefusal bufferRefusal _orElse_ facesOf count start sizeAt sideAt top log2 halvings
 mipmaps-order = (refl, refl, refl, refl)
 
+-- of one level's check 3 before 15 before 6
+check-level-order : (checkLevelRefusal linear 2 1 2 2 9 ≡ 3) × (checkLevelRefusal linear 2 1 2 3 9 ≡ 15) × (checkLevelRefusal linear 2 1 0 3 9 ≡ 6) × (checkLevelRefusal linear 2 1 0 3 1 ≡ 0)
+unfolding checkLevelRefusal mipmapsRefusal modeRefusal packingCode chainRefusal pictureRefusal kindRefusal sidesRefusal bufferRefusal levelRefusal _orElse_ facesOf count start sizeAt sideAt top log2 halvings
+check-level-order = (refl, refl, refl, refl)
+
 -- sides 1 to 4,096
 side-range : (sidesRefusal 4096 1 ≡ 0) × (sidesRefusal 1 4096 ≡ 0) × (sidesRefusal 4097 1 ≡ 2) × (sidesRefusal 1 4097 ≡ 2) × (sidesRefusal 1 0 ≡ 2)
 unfolding sidesRefusal
@@ -166,6 +173,27 @@ three-lamps : let s = irradianceOf 2 2 (0xC8000000 ∷ 0xFF000000 ∷ 0x80000000
     (s .constant .r ≡ ofBits binary32 0x3e79ea04) × (s .y .r ≡ ofBits binary32 0x3e1aef0a) × (s .z .r ≡ ofBits binary32 0xbcbc03d5) × (s .x .r ≡ ofBits binary32 0x3ecc0dda)
 unfolding irradianceOf foldedOf timesBoth sumsOf inTurn withTexel allGet gets decodedOf texel placeBasis basisOf dividedBy towards weightOf distanceOf centreOf omegaOf sqrtOf curve curvePattern rootPattern found reaches units add sub mul div neg ofBits ofInt
 three-lamps = (refl, refl, refl, refl)
+
+-- ---- another tool's chain, by a rule that adds the upper two
+
+upper2 : ℕ → ℕ → ℕ → ℕ → ℕ
+upper2 a b c d = a + b
+
+-- 4 by 1: it follows, and what stands behind it is not looked at
+four-wide-follows : (levelsVerdict upper2 1 4 1 (1 ∷ 2 ∷ 3 ∷ 4 ∷ 3 ∷ 7 ∷ 10 ∷ []) 3 ≡ Follows) × (levelsVerdict upper2 1 4 1 (1 ∷ 2 ∷ 3 ∷ 4 ∷ 3 ∷ 7 ∷ 10 ∷ 9 ∷ []) 3 ≡ Follows)
+unfolding upper2 levelsVerdict levelVerdict firstWrong due standing start sizeAt sideAt next grid tab quad texel
+four-wide-follows = (refl, refl)
+
+-- of two wrong texels the smaller place, and each level by the one before as it stands: 11 follows from 3 and 8
+two-wrong : (levelsVerdict upper2 1 4 1 (1 ∷ 2 ∷ 3 ∷ 4 ∷ 2 ∷ 8 ∷ 10 ∷ []) 3 ≡ WrongAt 4) × (levelVerdict upper2 1 4 1 (1 ∷ 2 ∷ 3 ∷ 4 ∷ 3 ∷ 8 ∷ 11 ∷ []) 1 ≡ WrongAt 5)
+    × (levelVerdict upper2 1 4 1 (1 ∷ 2 ∷ 3 ∷ 4 ∷ 3 ∷ 8 ∷ 11 ∷ []) 2 ≡ Follows) × (levelVerdict upper2 1 4 1 (1 ∷ 2 ∷ 3 ∷ 4 ∷ 3 ∷ 8 ∷ 11 ∷ []) 0 ≡ Follows)
+unfolding upper2 levelsVerdict levelVerdict firstWrong due standing start sizeAt sideAt next grid tab quad texel
+two-wrong = (refl, refl, refl, refl)
+
+-- a texel of level 0 is made into one of level 1; into none, where it stands in the third column of 3
+level-0-changed : (levelsVerdict upper2 1 4 1 (1 ∷ 2 ∷ 3 ∷ 5 ∷ 3 ∷ 7 ∷ 10 ∷ []) 3 ≡ WrongAt 5) × (child 1 4 1 0 3 ≡ 5) × (levelsVerdict upper2 1 3 1 (1 ∷ 2 ∷ 9 ∷ 3 ∷ []) 2 ≡ Follows)
+unfolding upper2 levelsVerdict levelVerdict firstWrong due child standing start sizeAt sideAt next grid tab quad texel
+level-0-changed = (refl, refl, refl)
 
 -- ---- slips that look right
 
