@@ -1,4 +1,5 @@
 // A record's call, by its number: the buffers that it is lent, and the call itself.
+use crate::checks;
 use crate::light;
 use crate::parts;
 use crate::ranges;
@@ -36,6 +37,8 @@ fn lent_agrees(record: &Record) -> bool {
     match call {
         1 => parts::generate_mipmaps_agrees(record, &mut texels[..n]),
         14 => ranges::replace_texel_agrees(record, &mut texels[..n]),
+        16 => checks::check_chain_agrees(record, &mut texels[..n]),
+        17 => checks::check_level_agrees(record, &mut texels[..n]),
         _ => reading_agrees(record, &texels[..n]),
     }
 }

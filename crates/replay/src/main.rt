@@ -1,6 +1,7 @@
 // Replays the stored list of answers on the unit and writes how many agree. bindings/compare/ANSWERS.md describes the list.
 mod answers;
 mod asks;
+mod checks;
 mod light;
 mod parts;
 mod ranges;
