@@ -13,9 +13,9 @@ use Rattle.rules.specs.Sizes.{half}
 use Rattle.rules.specs.Levels.{grid, texel, quad, next}
 use Rattle.kinds.specs.Runs.{over}
 use Rattle.reduce.specs.Rows.{heldOf}
-use Rattle.reduce.specs.Levels.{Sides, written}
+use Rattle.reduce.specs.Levels.{Sides, firstRow, secondRow, written}
 use Rattle.kinds.proofs.Runs.{Over, over-first, over-same, over-more, over-end}
-use Rattle.reduce.proofs.Bounds.{rows, texels, half-most}
+use Rattle.reduce.proofs.Bounds.{texels, half-most}
 
 -- texel i of the level after l, counted through rows and faces
 unfoldable pub cellOf : (ℕ → ℕ → ℕ → ℕ → ℕ) → ℕ → ℕ → ℕ → ℕ → List ℕ → ℕ → ℕ
@@ -42,16 +42,11 @@ pub record Rows (reduce : ℕ → ℕ → ℕ → ℕ → ℕ) (faces w h w2 h2 
   pub run : Over n old (y * w2) (cellOf reduce w h w2 h2 (take n old)) s
 
 -- where the next row's sources are and where it goes
-pub record Places (faces w h w2 h2 n y j : ℕ) (old : List ℕ) : Type 0 where
-  pub face : y / h2 < faces
-  pub low : y % h2 < h2
-  pub row0 : y / h2 * h + 2 * (y % h2) < faces * h
-  pub row1 : y / h2 * h + j < faces * h
-  pub texels0 : (y / h2 * h + 2 * (y % h2)) * w + w ≤ n
-  pub texels1 : (y / h2 * h + j) * w + w ≤ n
+pub record Places (w h w2 h2 n y : ℕ) (old : List ℕ) : Type 0 where
+  pub texels0 : firstRow w h h2 y + w ≤ n
+  pub texels1 : secondRow w h h2 y + w ≤ n
   pub goes : n + (y * w2 + w2) ≤ length old
   pub few : y < 24576
-  pub most-rows : faces * h ≤ 24576
   pub most : n ≤ 100663296
 
 pub rows-first : (reduce : ℕ → ℕ → ℕ → ℕ → ℕ) (faces w h w2 h2 n : ℕ) (old : List ℕ) → Sides faces w h → w2 ≡ half w → h2 ≡ half h → n ≡ faces * h * w
@@ -68,23 +63,18 @@ rows-first reduce faces w h w2 h2 n old s ew eh en room =
     }
 
 module _ {reduce : ℕ → ℕ → ℕ → ℕ → ℕ} {faces w h w2 h2 n : ℕ} {old s : List ℕ} {y : ℕ} (t : Rows reduce faces w h w2 h2 n old s y) where
-  pub rows-places : y < faces * h2 → {j : ℕ} → j ≡ min (2 * (y % h2) + 1) (h - 1) → Places faces w h w2 h2 n y j old
-  rows-places lt {j} ej =
+  pub rows-places : y < faces * h2 → Places w h w2 h2 n y old
+  rows-places lt =
       let ph : 0 < h2 = omega arith in
       let f : y / h2 < faces = div-lt-iff-lt-mul ph .1 lt in
       let i : y % h2 < h2 = mod-lt y ph in
       let a : 2 * (y % h2) < h = omega arith in
-      let b : j < h = omega arith in
+      let b : min (2 * (y % h2) + 1) (h - 1) < h = omega arith in
       record {
-        face = f;
-        low = i;
-        row0 = digits-lt f a;
-        row1 = digits-lt f b;
         texels0 = rw (t .here) (row-in w (digits-lt f a));
         texels1 = rw (t .here) (row-in w (digits-lt f b));
         goes = omega (arith, row-in w2 lt);
         few = omega (arith, mul-le-mul (t .sides .most-f) (half-most (t .sides)), ap (λ (k : ℕ). faces * k) (t .half-h));
-        most-rows = rows (t .sides);
         most = rw (t .here) (texels (t .sides));
       }
 
@@ -94,16 +84,16 @@ module _ {reduce : ℕ → ℕ → ℕ → ℕ → ℕ} {faces w h w2 h2 n : ℕ
       rw (getD-drop (r * w) s x 0, over-same (t .run) (r * w + x) (omega arith)) (sym (getD-take n old (r * w + x) 0 (omega arith)))
 
   -- a texel of the row that is made of them is one of the next level
-  pub held-cell : y < faces * h2 → (j : ℕ) → j ≡ min (2 * (y % h2) + 1) (h - 1) → (k : ℕ) → k < half w
-      → heldOf reduce w (drop ((y / h2 * h + 2 * (y % h2)) * w) s) (drop ((y / h2 * h + j) * w) s) k ≡ cellOf reduce w h w2 h2 (take n old) (y * w2 + k)
+  pub held-cell : y < faces * h2 → (k : ℕ) → k < half w
+      → heldOf reduce w (drop (firstRow w h h2 y) s) (drop (secondRow w h h2 y) s) k ≡ cellOf reduce w h w2 h2 (take n old) (y * w2 + k)
   unfolding heldOf cellOf quad texel
-  held-cell lt j ej k l =
-      let p = rows-places lt ej in
+  held-cell lt k l =
+      let p = rows-places lt in
       let kw : k < w2 = omega (arith, t .half-w) in
       let x₀ : 2 * k < w = omega (arith, t .sides) in
       let x₁ : min (2 * k + 1) (w - 1) < w = omega (arith, t .sides) in
       let r₀ = y / h2 * h + 2 * (y % h2) in
-      let r₁ = y / h2 * h + j in
+      let r₁ = y / h2 * h + min (2 * (y % h2) + 1) (h - 1) in
       rw (
         digits-div y kw,
         digits-mod y kw,
@@ -111,14 +101,12 @@ module _ {reduce : ℕ → ℕ → ℕ → ℕ → ℕ} {faces w h w2 h2 n : ℕ
         read r₀ (min (2 * k + 1) (w - 1)) (p .texels0) x₁,
         read r₁ (2 * k) (p .texels1) x₀,
         read r₁ (min (2 * k + 1) (w - 1)) (p .texels1) x₁,
-        ej,
       )
 
-  pub rows-more : y < faces * h2 → (j : ℕ) (u : List ℕ) → j ≡ min (2 * (y % h2) + 1) (h - 1)
-      → u ≡ over (n + y * w2) s (half w) (heldOf reduce w (drop ((y / h2 * h + 2 * (y % h2)) * w) s) (drop ((y / h2 * h + j) * w) s))
-      → Rows reduce faces w h w2 h2 n old u (y + 1)
-  rows-more lt j u ej eu =
-      let p = rows-places lt ej in
+  pub rows-more : y < faces * h2 → {a b : ℕ} (u : List ℕ) → (a ≡ firstRow w h h2 y) × (b ≡ secondRow w h h2 y)
+      → u ≡ over (n + y * w2) s (half w) (heldOf reduce w (drop a s) (drop b s)) → Rows reduce faces w h w2 h2 n old u (y + 1)
+  rows-more lt u e eu =
+      let p = rows-places lt in
       let more : (y + 1) * w2 ≡ y * w2 + half w = rw (add-one y, suc-mul y w2) (omega (arith, t .half-w)) in
       record {
         sides = t .sides;
@@ -127,7 +115,7 @@ module _ {reduce : ℕ → ℕ → ℕ → ℕ → ℕ} {faces w h w2 h2 n : ℕ
         here = t .here;
         below = omega arith;
         room = t .room;
-        run = rw more (over-more (t .run) (n + y * w2) (half w) _ u refl eu (omega (arith, p .goes, t .half-w)) (held-cell lt j ej));
+        run = rw more (over-more (t .run) (n + y * w2) (half w) _ u refl (rw (e .0, e .1) at eu) (omega (arith, p .goes, t .half-w)) (held-cell lt));
       }
 
   -- all rows are written

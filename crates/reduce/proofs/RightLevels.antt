@@ -11,6 +11,7 @@ use Rattle.rules.specs.Levels.{grid, next}
 use Rattle.rules.proofs.Grid.{getD-tab}
 use Rattle.kinds.proofs.Runs.{Over, over-is, over-more, over-end}
 use Rattle.reduce.specs.Rows.{heldOf}
+use Rattle.reduce.specs.Levels.{firstRow, secondRow}
 use Rattle.reduce.specs.Right.{Right}
 use Rattle.reduce.proofs.Levels.{cellOf, Rows, rows-places, row-in, held-cell, rows-more}
 use Rattle.reduce.proofs.Rights.{right-all, right-stop, right-ext}
@@ -32,20 +33,21 @@ module _ {reduce : ℕ → ℕ → ℕ → ℕ → ℕ} {faces w h w2 h2 n : ℕ
       (right-all (over-is n s (faces * h2 * w2) (cellOf reduce w h w2 h2 (take n s)) s (t .room) (over-end (t .run) (faces * h2 * w2) (ap (λ (k : ℕ). k * w2) e))))
 
   -- row y is right up to its texel r
-  module _ (lt : y < faces * h2) (j r : ℕ) (ej : j ≡ min (2 * (y % h2) + 1) (h - 1))
-      (row : Right (n + y * w2) s (half w) (heldOf reduce w (drop ((y / h2 * h + 2 * (y % h2)) * w) s) (drop ((y / h2 * h + j) * w) s)) r) where
+  module _ (lt : y < faces * h2) {a b : ℕ} (r : ℕ) (e : (a ≡ firstRow w h h2 y) × (b ≡ secondRow w h h2 y))
+      (row : Right (n + y * w2) s (half w) (heldOf reduce w (drop a s) (drop b s)) r) where
     pub row-more : w2 ≤ r → Rows reduce faces w h w2 h2 n s s (y + 1)
     row-more le =
         let m = row .most in
-        let e : half w ≡ r = omega (arith, t .half-w) in
-        rows-more t lt j s ej (rw e (row .same))
+        let all : half w ≡ r = omega (arith, t .half-w) in
+        rows-more t lt s e (rw all (row .same))
 
     pub row-stop : r < w2 → Right (faces * h * w) s (faces * half h * half w) (λ k. getD (next reduce faces w h (take (faces * h * w) s)) k 0) (y * w2 + r)
     row-stop few =
-        let p = rows-places t lt ej in
+        let p = rows-places t lt in
         let few′ : r < half w = omega (arith, t .half-w) in
+        let u : Right (n + y * w2) s (half w) (heldOf reduce w (drop (firstRow w h h2 y) s) (drop (secondRow w h h2 y) s)) r = rw (e .0, e .1) at row in
         as-next
         (right-stop
-        (over-more (t .run) (n + y * w2) r _ s refl (row .same) (omega (arith, p .goes)) (λ k lk. held-cell t lt j ej k (omega arith)))
+        (over-more (t .run) (n + y * w2) r _ s refl (u .same) (omega (arith, p .goes)) (λ k lk. held-cell t lt k (omega arith)))
         (omega (arith, row-in w2 lt))
-        (λ z. row .other few′ (ap (λ (i : ℕ). getD s i 0) (add-assoc n (y * w2) r) ∙ z ∙ sym (held-cell t lt j ej r few′))))
+        (λ z. u .other few′ (ap (λ (i : ℕ). getD s i 0) (add-assoc n (y * w2) r) ∙ z ∙ sym (held-cell t lt r few′))))

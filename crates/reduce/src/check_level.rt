@@ -1,7 +1,7 @@
 // A level as it stands, held against what is made of the level before, row by row through all its faces.
 use crate::check_row::check_row;
 use crate::level::halved;
-use crate::level::second;
+use crate::level::rows_above;
 use crate::level::size;
 use rules::Packing;
 ghost use mathlib.Core.Path.{_≡_};
@@ -25,18 +25,8 @@ pub fn check_next(kind: u32, packing: Packing, faces: usize, w: usize, h: usize,
     let rows = faces * h2;
     let mut y = 0;
     while y < rows {
-        let top = y / h2 * h;
-        let i = y % h2;
-        let j = second(i, h);
-        let right = check_row(
-            kind,
-            packing,
-            w,
-            (top + 2 * i) * w,
-            (top + j) * w,
-            n + y * w2,
-            s,
-        );
+        let r = rows_above(y, w, h, h2);
+        let right = check_row(kind, packing, w, r.first, r.second, n + y * w2, s);
         if right < w2 {
             return y * w2 + right;
         }

@@ -6,7 +6,7 @@ ghost use Prim.Native.Nat.{_+_, _-_, _*_, _<_, _≤_, min};
 ghost use lib.ListN.{length};
 ghost use Rattle.rules.specs.Sizes.{half};
 ghost use Rattle.rules.specs.Reducing.{reduceOf};
-ghost use Rattle.reduce.specs.Levels.{Sides, written};
+ghost use Rattle.reduce.specs.Levels.{Sides, firstRow, secondRow, written};
 
 // The next level's side: shifted right by 1, and at least 1.
 pub fn halved(s: usize) -> usize
@@ -24,11 +24,31 @@ pub fn size(faces: usize, w: usize, h: usize) -> usize
 }
 
 // y1 = min(2y + 1, previous height - 1)
-pub fn second(y: usize, h: usize) -> usize
+fn second(y: usize, h: usize) -> usize
     requires { ⌜ (1 ≤ h) × (y < half h) × (h ≤ 4096) ⌝ }
     ensures { λ r. ⌜ r ≡ min (2 * y + 1) (h - 1) ⌝ }
 {
     if 2 * y + 1 < h { 2 * y + 1 } else { h - 1 }
+}
+
+// Where the two rows of a level start that a row of the next is made from.
+pub struct Above {
+    pub first: usize,
+    pub second: usize,
+}
+
+// Those of row y, counted through all faces, each h2 high in the next level: rows y0 and y1 of its own face.
+pub fn rows_above(y: usize, w: usize, h: usize, h2: usize) -> Above
+    requires { ⌜ (1 ≤ h) × (h ≤ 4096) × (w ≤ 4096) × (h2 ≡ half h) × (y < 24576) ⌝ }
+    ensures { λ r. ⌜ (r .first ≡ firstRow w h h2 y) × (r .second ≡ secondRow w h h2 y) ⌝ }
+{
+    let top = y / h2 * h;
+    let i = y % h2;
+    let j = second(i, h);
+    Above {
+        first: (top + 2 * i) * w,
+        second: (top + j) * w,
+    }
 }
 
 // Writes the level after the level at the front of s behind it.
@@ -43,18 +63,8 @@ pub fn write_next(kind: u32, packing: Packing, faces: usize, w: usize, h: usize,
     let rows = faces * h2;
     let mut y = 0;
     while y < rows {
-        let top = y / h2 * h;
-        let i = y % h2;
-        let j = second(i, h);
-        write_row(
-            kind,
-            packing,
-            w,
-            (top + 2 * i) * w,
-            (top + j) * w,
-            n + y * w2,
-            s,
-        );
+        let r = rows_above(y, w, h, h2);
+        write_row(kind, packing, w, r.first, r.second, n + y * w2, s);
         y += 1;
     }
 }

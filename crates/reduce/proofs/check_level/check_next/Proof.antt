@@ -1,6 +1,5 @@
 -- `reduce::check_level::check_next` meets its contract. The invariant: y rows of all faces stand there. The measure is the rows left.
 -- Assumes nothing.
-use mathlib.Core.Path.{refl}
 use Prim.Native.Nat.{_*_, _-_}
 use native.Mathlib.Nat.{mul-le-mul}
 use native.Mathlib.Omega.{arith}
@@ -37,24 +36,15 @@ loop-holds c =
     let start = c .before .before .before .before in
     rows-first _ _ _ _ _ _ _ _ (start .pre .0) (c .before .before .halved .ensures) (c .before .halved2 .ensures) (c .size .ensures) (start .pre .1)
 
-div-top : tie.Need-div-top Inv-loop μ-loop
-div-top c = omega arith
-
-mul-top : tie.Need-mul-top Inv-loop μ-loop
-mul-top c = omega (arith, rows-places (c .before .loop .inv) (c .loop-test .taken) refl)
-
-rem-i : tie.Need-rem-i Inv-loop μ-loop
-rem-i c = omega arith
-
-second-requires : tie.Need-second-requires Inv-loop μ-loop
-second-requires c κs = omega (arith, rows-places (c .before .loop .inv) (c .loop-test .taken) refl)
+rows-above-requires : tie.Need-rows-above-requires Inv-loop μ-loop
+rows-above-requires c κs = omega (arith, c .before .loop .inv, rows-places (c .before .loop .inv) (c .loop-test .taken))
 
 -- where the row is read and where it stands
-places : (c : tie.After-second Inv-loop μ-loop)
-    → let start = c .before .before .before .before .before .before .before .args in
-    let size = c .before .before .before in
-    Places (start .faces) (start .w) (start .h) (size .before .before .halved .result) (size .before .halved2 .result) (size .size .result) (c .before .before .loop .y) (c .second .result) (start .s .now)
-places c = rows-places (c .before .before .loop .inv) (c .before .loop-test .taken) (c .second .ensures)
+places : (c : tie.After-rows-above Inv-loop μ-loop)
+    → let size = c .before .before .before in
+    let start = size .before .before .before .before .args in
+    Places (start .w) (start .h) (size .before .before .halved .result) (size .before .halved2 .result) (size .size .result) (c .before .before .loop .y) (start .s .now)
+places c = rows-places (c .before .before .loop .inv) (c .before .loop-test .taken)
 
 mul-check-row : tie.Need-mul-check-row Inv-loop μ-loop
 mul-check-row c = omega (arith, places c)
@@ -62,23 +52,8 @@ mul-check-row c = omega (arith, places c)
 add-check-row : tie.Need-add-check-row Inv-loop μ-loop
 add-check-row c = omega (arith, places c)
 
-mul-check-row-2 : tie.Need-mul-check-row-2 Inv-loop μ-loop
-mul-check-row-2 c = omega (arith, places c)
-
-add-check-row-2 : tie.Need-add-check-row-2 Inv-loop μ-loop
-add-check-row-2 c = omega (arith, places c)
-
-mul-check-row-3 : tie.Need-mul-check-row-3 Inv-loop μ-loop
-mul-check-row-3 c = omega (arith, places c)
-
-mul-check-row-4 : tie.Need-mul-check-row-4 Inv-loop μ-loop
-mul-check-row-4 c = omega (arith, places c)
-
-add-check-row-3 : tie.Need-add-check-row-3 Inv-loop μ-loop
-add-check-row-3 c = omega (arith, places c)
-
 check-row-requires : tie.Need-check-row-requires Inv-loop μ-loop
-check-row-requires c κs = omega (arith, places c)
+check-row-requires c κs = omega (arith, c .rows-above .ensures, places c)
 
 mul-result : tie.Need-mul-result Inv-loop μ-loop
 mul-result c = omega (arith, places (c .before .before))
@@ -87,7 +62,9 @@ add-result : tie.Need-add-result Inv-loop μ-loop
 add-result c = omega (arith, places (c .before .before), c .before .check-row .ensures)
 
 returns : tie.Need-returns Inv-loop μ-loop
-returns c = row-stop (c .before .before .before .before .loop .inv) (c .before .before .before .loop-test .taken) _ _ (c .before .before .second .ensures) (c .before .check-row .ensures) (c .if1 .taken)
+returns c =
+    let above = c .before .before in
+    row-stop (above .before .before .loop .inv) (above .before .loop-test .taken) _ (above .rows-above .ensures) (c .before .check-row .ensures) (c .if1 .taken)
 
 add-y : tie.Need-add-y Inv-loop μ-loop
 add-y c = omega (arith, places (c .before .before))
@@ -96,7 +73,9 @@ loop-less : tie.Need-loop-less Inv-loop μ-loop
 loop-less c = omega arith
 
 loop-again : tie.Need-loop-again Inv-loop μ-loop
-loop-again c = row-more (c .before .before .before .before .loop .inv) (c .before .before .before .loop-test .taken) _ _ (c .before .before .second .ensures) (c .before .check-row .ensures) (c .if1 .left)
+loop-again c =
+    let above = c .before .before in
+    row-more (above .before .before .loop .inv) (above .before .loop-test .taken) _ (above .rows-above .ensures) (c .before .check-row .ensures) (c .if1 .left)
 
 mul-result-2 : tie.Need-mul-result-2 Inv-loop μ-loop
 mul-result-2 c = omega (arith, c .before .loop .inv .room)
@@ -115,17 +94,9 @@ check-next-spec =
     size-requires
     mul-rows
     loop-holds
-    div-top
-    mul-top
-    rem-i
-    second-requires
+    rows-above-requires
     mul-check-row
     add-check-row
-    mul-check-row-2
-    add-check-row-2
-    mul-check-row-3
-    mul-check-row-4
-    add-check-row-3
     check-row-requires
     mul-result
     add-result

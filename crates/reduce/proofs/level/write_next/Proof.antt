@@ -35,54 +35,30 @@ loop-holds c =
     let start = c .before .before .before .before in
     rows-first _ _ _ _ _ _ _ _ (start .pre .0) (c .before .before .halved .ensures) (c .before .halved2 .ensures) (c .size .ensures) (start .pre .1)
 
-div-top : tie.Need-div-top Inv-loop μ-loop
-div-top c = omega arith
-
-mul-top : tie.Need-mul-top Inv-loop μ-loop
-mul-top c = omega (arith, rows-places (c .before .loop .inv) (c .loop-test .taken) refl)
-
-rem-i : tie.Need-rem-i Inv-loop μ-loop
-rem-i c = omega arith
-
-second-requires : tie.Need-second-requires Inv-loop μ-loop
-second-requires c κs = omega (arith, rows-places (c .before .loop .inv) (c .loop-test .taken) refl)
+rows-above-requires : tie.Need-rows-above-requires Inv-loop μ-loop
+rows-above-requires c κs = omega (arith, c .before .loop .inv, rows-places (c .before .loop .inv) (c .loop-test .taken))
 
 mul-write-row : tie.Need-mul-write-row Inv-loop μ-loop
-mul-write-row c = omega (arith, rows-places (c .before .before .loop .inv) (c .before .loop-test .taken) (c .second .ensures))
+mul-write-row c = omega (arith, rows-places (c .before .before .loop .inv) (c .before .loop-test .taken))
 
 add-write-row : tie.Need-add-write-row Inv-loop μ-loop
-add-write-row c = omega (arith, rows-places (c .before .before .loop .inv) (c .before .loop-test .taken) (c .second .ensures))
-
-mul-write-row-2 : tie.Need-mul-write-row-2 Inv-loop μ-loop
-mul-write-row-2 c = omega (arith, rows-places (c .before .before .loop .inv) (c .before .loop-test .taken) (c .second .ensures))
-
-add-write-row-2 : tie.Need-add-write-row-2 Inv-loop μ-loop
-add-write-row-2 c = omega (arith, rows-places (c .before .before .loop .inv) (c .before .loop-test .taken) (c .second .ensures))
-
-mul-write-row-3 : tie.Need-mul-write-row-3 Inv-loop μ-loop
-mul-write-row-3 c = omega (arith, rows-places (c .before .before .loop .inv) (c .before .loop-test .taken) (c .second .ensures))
-
-mul-write-row-4 : tie.Need-mul-write-row-4 Inv-loop μ-loop
-mul-write-row-4 c = omega (arith, rows-places (c .before .before .loop .inv) (c .before .loop-test .taken) (c .second .ensures))
-
-add-write-row-3 : tie.Need-add-write-row-3 Inv-loop μ-loop
-add-write-row-3 c = omega (arith, rows-places (c .before .before .loop .inv) (c .before .loop-test .taken) (c .second .ensures))
+add-write-row c = omega (arith, rows-places (c .before .before .loop .inv) (c .before .loop-test .taken))
 
 write-row-requires : tie.Need-write-row-requires Inv-loop μ-loop
-write-row-requires c κs = omega (arith, rows-places (c .before .before .before .loop .inv) (c .before .before .loop-test .taken) (c .before .second .ensures))
+write-row-requires c κs = let r = c .before in omega (arith, r .rows-above .ensures, rows-places (r .before .before .loop .inv) (r .before .loop-test .taken))
 
 add-y : tie.Need-add-y Inv-loop μ-loop
 add-y c =
     let inside = c .before .before .before .before .before in
-    omega (arith, rows-places (inside .before .loop .inv) (inside .loop-test .taken) refl)
+    omega (arith, rows-places (inside .before .loop .inv) (inside .loop-test .taken))
 
 loop-less : tie.Need-loop-less Inv-loop μ-loop
 loop-less c = omega arith
 
 loop-again : tie.Need-loop-again Inv-loop μ-loop
 loop-again c =
-    let loop = c .before .before .before .before .before .before in
-    rows-more (loop .loop .inv) (c .before .before .before .before .before .loop-test .taken) _ _ (c .before .before .before .before .second .ensures) (c .before .before .write-row .ensures)
+    let above = c .before .before .before .before in
+    rows-more (above .before .before .loop .inv) (above .before .loop-test .taken) _ (above .rows-above .ensures) (c .before .before .write-row .ensures)
 
 same-length : tie.Need-same-length Inv-loop μ-loop
 same-length c = c .before .loop .inv .run .as-long
@@ -101,17 +77,9 @@ write-next-spec =
     size-requires
     mul-rows
     loop-holds
-    div-top
-    mul-top
-    rem-i
-    second-requires
+    rows-above-requires
     mul-write-row
     add-write-row
-    mul-write-row-2
-    add-write-row-2
-    mul-write-row-3
-    mul-write-row-4
-    add-write-row-3
     write-row-requires
     add-y
     loop-less
