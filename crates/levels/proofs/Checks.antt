@@ -1,6 +1,6 @@
 -- The code of a level's verdict goes by what is right behind the level before, counted from there; the definition by places in the
 -- chain. Both are the same texels, since a level starts where the one before ends. Assumes nothing.
-use mathlib.Core.Path.{_≡_, refl, sym, ap, _∙_}
+use mathlib.Core.Path.{_≡_, sym, ap, _∙_}
 use mathlib.Core.Bool.{true, false}
 use mathlib.Core.List.{List}
 use Prim.Native.Nat.{ℕ, zero, suc, _+_, _-_, _*_, _≤_, _<_}
@@ -10,7 +10,6 @@ use native.Mathlib.Omega.{arith}
 use borrow.Author.Tests.{eq-eqb, ne-eqb}
 use lib.ListN.{length, getD, take, drop, length-drop}
 use lib.Seq.{getD-drop}
-use Rattle.rules.specs.declared.Verdict.{Verdict}
 use Rattle.rules.specs.declared.Verdict.the-variants.{Follows, WrongAt}
 use Rattle.rules.specs.Kinds.{facesOf}
 use Rattle.rules.specs.Sizes.{sideAt, half, top, sizeAt, start, count}

@@ -2,5 +2,5 @@ pub mod Bounds
 pub mod Rows
 pub mod Levels
 pub mod Steps
-pub mod Rights
-pub mod RightLevels
+pub mod Standing
+pub mod StandingLevels

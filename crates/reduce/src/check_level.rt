@@ -4,7 +4,6 @@ use crate::level::halved;
 use crate::level::rows_above;
 use crate::level::size;
 use rules::Packing;
-ghost use mathlib.Core.Path.{_≡_};
 ghost use Prim.Native.Nat.{_+_, _*_, _≤_};
 ghost use lib.ListN.{length, getD, take};
 ghost use Rattle.rules.specs.Sizes.{half};

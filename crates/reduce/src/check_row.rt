@@ -4,7 +4,6 @@ use crate::alike::alike;
 use crate::row::least;
 use crate::row::texel_of_one;
 use rules::Packing;
-ghost use mathlib.Core.Path.{_≡_};
 ghost use Prim.Native.Nat.{_+_, _*_, _<_, _≤_, min};
 ghost use lib.ListN.{length, drop};
 ghost use Rattle.rules.specs.Sizes.{half};

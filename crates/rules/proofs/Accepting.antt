@@ -2,11 +2,11 @@
 -- check_chain answers yes exactly if 01's chain of its level 0 was lent, and exactly if check_level does for every level; what the chain
 -- call leaves it always accepts; of an accepted chain it accepts the part from any level on; and where one texel of an accepted chain
 -- is changed, it says where. Assumes nothing.
-use mathlib.Core.Path.{_≡_, refl, sym, ap, _∙_}
+use mathlib.Core.Path.{_≡_, sym, ap, _∙_}
 use mathlib.Core.Bool.{Bool, true, false, false≢true}
 use mathlib.Core.Logic.{_⊎_, inl, inr, ⊎-elim}
 use mathlib.Core.List.{List}
-use Prim.Native.Nat.{ℕ, suc, _+_, _-_, _*_, _≤_, _<_}
+use Prim.Native.Nat.{ℕ, suc, _+_, _-_, _≤_, _<_}
 use native.Mathlib.Nat.{le-trans}
 use native.Mathlib.Omega.{arith}
 use lib.ListN.{length, getD, take, drop, set, length-set, length-drop}
@@ -21,7 +21,7 @@ use Rattle.rules.specs.Levels.{level}
 use Rattle.rules.specs.Packing.{packingOf}
 use Rattle.rules.specs.Reducing.{reduceOf}
 use Rattle.rules.specs.Pictures.{levelOf, chainOf}
-use Rattle.rules.specs.Checks.{standing, levelVerdict, levelsVerdict, child, levelVerdictOf, chainVerdictOf}
+use Rattle.rules.specs.Checks.{standing, child, levelVerdictOf, chainVerdictOf}
 use Rattle.rules.specs.Refusals.{mipmapsRefusal}
 use Rattle.rules.specs.Answers.{answer, chainLeaves, checkChainAnswer, checkLevelAnswer}
 use Rattle.rules.proofs.Sides.{side-pos, side-le, size-zero, count-side}

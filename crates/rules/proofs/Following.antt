@@ -3,7 +3,7 @@
 -- that follows the part from level a on does, as a chain of level a's sides. Assumes nothing.
 use mathlib.Core.Path.{_≡_, refl, sym, ap, ap₂, _∙_}
 use mathlib.Core.List.{List, _++_, append-assoc, append-nil}
-use Prim.Native.Nat.{ℕ, zero, suc, _+_, _-_, _*_, _≤_, _<_}
+use Prim.Native.Nat.{ℕ, zero, suc, _+_, _-_, _≤_, _<_}
 use native.Mathlib.Numerals.{add-one}
 use native.Mathlib.Omega.{arith}
 use lib.ListN.{length, getD, take, drop, length-drop, take-append-drop}
@@ -11,7 +11,7 @@ use lib.Seq.{length-take-le, take-add, getD-take, getD-drop, ext-getD}
 use Rattle.rules.specs.declared.Verdict.the-variants.{Follows}
 use Rattle.rules.specs.Sizes.{sideAt, half, sizeAt, start}
 use Rattle.rules.specs.Levels.{next, level, chain}
-use Rattle.rules.specs.Checks.{standing, due, levelVerdict, levelsVerdict}
+use Rattle.rules.specs.Checks.{standing, levelVerdict, levelsVerdict}
 use Rattle.rules.proofs.Sides.{half-side, start-suc, size-zero}
 use Rattle.rules.proofs.Bounds.{start-mono}
 use Rattle.rules.proofs.Chain.{length-next, level-add, chain-level}

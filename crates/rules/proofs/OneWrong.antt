@@ -7,8 +7,7 @@ use Prim.Native.Nat.{ℕ, zero, suc, _+_, _-_, _*_, _/_, _%_, _≤_, _<_, min}
 use native.Mathlib.Nat.{mod-lt, div-add-mod'}
 use native.Mathlib.Decide.{decLe, ℕ-discrete}
 use native.Mathlib.Omega.{arith}
-use lib.Arith.{digits-div, digits-mod}
-use lib.ListN.{length, getD, take, drop, set, length-set}
+use lib.ListN.{length, getD, take, drop, set}
 use lib.Seq.{take-set-le, take-set-lt, drop-set-lt, drop-set-add, getD-set-same, getD-set-other}
 use Rattle.rules.specs.declared.Verdict.the-variants.{Follows, WrongAt}
 use Rattle.rules.specs.Sizes.{sideAt, half, sizeAt, start}

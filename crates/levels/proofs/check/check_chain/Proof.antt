@@ -1,6 +1,5 @@
 -- `levels::check::check_chain` meets its contract: past the tests the chain has room, and its levels are judged. Assumes nothing.
 use mathlib.Core.Path.{sym, _∙_}
-use native.Mathlib.Omega.{arith}
 use borrow.Author.Needs.{needs}
 use lib.ListN.{length}
 use Rattle.rules.proofs.Refusing.{Chained, chain-facts}

@@ -1,6 +1,5 @@
 -- `levels::check::check_level` meets its contract: the same, of one level that there is. Assumes nothing.
 use mathlib.Core.Path.{sym, _∙_}
-use native.Mathlib.Omega.{arith}
 use borrow.Author.Needs.{needs}
 use lib.ListN.{length}
 use Rattle.rules.proofs.Refusing.{Chained, chain-facts, level-facts}

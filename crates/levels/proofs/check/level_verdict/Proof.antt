@@ -1,5 +1,5 @@
 -- `levels::check::level_verdict` meets its contract: level 0 follows, and any other is judged behind the level before it. Assumes nothing.
-use mathlib.Core.Path.{_≡_, refl, sym, _∙_}
+use mathlib.Core.Path.{_≡_, refl}
 use Prim.Native.Nat.{_+_, _-_, _*_, _≤_, _<_}
 use native.Mathlib.Omega.{arith}
 use borrow.Author.Needs.{needs}
@@ -10,7 +10,6 @@ use Rattle.rules.specs.Kinds.{facesOf}
 use Rattle.rules.specs.Sizes.{sideAt, half}
 use Rattle.rules.specs.Reducing.{reduceOf}
 use Rattle.rules.specs.Checks.{levelVerdict, levelVerdictOf}
-use Rattle.rules.proofs.Bounds.{top-most}
 use Rattle.levels.proofs.Checks.{Behind, behind, judged}
 use Rattle.levels.proofs.check.level_verdict.Statement.{statement}
 use Rattle.levels.proofs.check.level_verdict.Tie as tie

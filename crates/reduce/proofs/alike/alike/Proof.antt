@@ -2,7 +2,7 @@
 use native.Mathlib.Omega.{arith}
 use borrow.Author.Needs.{needs}
 use Rattle.kinds.proofs.Runs.{over-is}
-use Rattle.reduce.proofs.Rights.{right-all}
+use Rattle.reduce.proofs.Standing.{right-all}
 use Rattle.reduce.proofs.alike.alike.Statement.{statement}
 use Rattle.reduce.proofs.alike.alike.Tie as tie
 

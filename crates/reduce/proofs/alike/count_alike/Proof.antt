@@ -1,10 +1,10 @@
 -- `reduce::alike::count_alike` meets its contract. The invariant: the first i stand there. The measure is what is left. Assumes nothing.
 use mathlib.Core.Path.{_≡_, sym}
-use Prim.Native.Nat.{_+_, _≤_, _-_}
+use Prim.Native.Nat.{_≤_, _-_}
 use native.Mathlib.Omega.{arith}
 use lib.ListN.{getD}
 use Rattle.kinds.proofs.Runs.{Over, over-first}
-use Rattle.reduce.proofs.Rights.{stands-more, right-all, right-stop}
+use Rattle.reduce.proofs.Standing.{stands-more, right-all, right-stop}
 use Rattle.reduce.proofs.alike.count_alike.Statement.{statement}
 use Rattle.reduce.proofs.alike.count_alike.Tie as tie
 

@@ -1,12 +1,12 @@
 -- `reduce::alike::count_unlike` meets its contract. The invariant: no more differ than were looked at, and where none does all of them
 -- stand there. The measure is what is left. Assumes nothing.
 use mathlib.Core.Path.{_≡_, sym}
-use Prim.Native.Nat.{_+_, _≤_, _-_}
+use Prim.Native.Nat.{_≤_, _-_}
 use native.Mathlib.Omega.{arith}
 use borrow.Author.Needs.{needs}
 use lib.ListN.{getD}
 use Rattle.kinds.proofs.Runs.{Over, over-first, over-end}
-use Rattle.reduce.proofs.Rights.{stands-more}
+use Rattle.reduce.proofs.Standing.{stands-more}
 use Rattle.reduce.proofs.alike.count_unlike.Statement.{statement}
 use Rattle.reduce.proofs.alike.count_unlike.Tie as tie
 

@@ -7,7 +7,7 @@ use borrow.Author.Needs.{needs}
 use Rattle.rules.specs.Reducing.{reduceOf}
 use Rattle.reduce.proofs.Bounds.{half-most}
 use Rattle.reduce.proofs.Levels.{Rows, Places, rows-first, rows-places}
-use Rattle.reduce.proofs.RightLevels.{rows-right, row-more, row-stop}
+use Rattle.reduce.proofs.StandingLevels.{rows-right, row-more, row-stop}
 use Rattle.reduce.proofs.check_level.check_next.Statement.{statement}
 use Rattle.reduce.proofs.check_level.check_next.Tie as tie
 

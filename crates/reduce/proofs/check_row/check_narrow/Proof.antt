@@ -2,7 +2,7 @@
 use native.Mathlib.Omega.{arith}
 use borrow.Author.Needs.{needs}
 use Rattle.rules.specs.Reducing.{reduceOf}
-use Rattle.reduce.proofs.Rights.{narrow-right, narrow-wrong}
+use Rattle.reduce.proofs.Standing.{narrow-right, narrow-wrong}
 use Rattle.reduce.proofs.check_row.check_narrow.Statement.{statement}
 use Rattle.reduce.proofs.check_row.check_narrow.Tie as tie
 

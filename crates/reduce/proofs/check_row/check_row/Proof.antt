@@ -2,7 +2,7 @@
 use native.Mathlib.Omega.{arith}
 use borrow.Author.Needs.{needs}
 use Rattle.rules.specs.Reducing.{reduceOf}
-use Rattle.reduce.proofs.Rights.{one-right, wide-right}
+use Rattle.reduce.proofs.Standing.{one-right, wide-right}
 use Rattle.reduce.proofs.check_row.check_row.Statement.{statement}
 use Rattle.reduce.proofs.check_row.check_row.Tie as tie
 

@@ -2,7 +2,7 @@
 -- left. Assumes nothing.
 use mathlib.Core.Path.{_≡_}
 use mathlib.Core.Logic.{⊎-elim}
-use Prim.Native.Nat.{ℕ, _+_, _-_, _≤_, _<_, min}
+use Prim.Native.Nat.{_+_, _-_, _≤_, _<_, min}
 use native.Mathlib.Nat.{pos-of-ne-zero}
 use native.Mathlib.Omega.{arith}
 use lib.ListN.{drop}
@@ -11,7 +11,7 @@ use Rattle.kinds.proofs.Codes.{of-srgb}
 use Rattle.kinds.specs.Runs.{pairOf}
 use Rattle.kinds.proofs.Runs.{Over, over-first}
 use Rattle.reduce.specs.Right.{Right}
-use Rattle.reduce.proofs.Rights.{right-all, right-turn}
+use Rattle.reduce.proofs.Standing.{right-all, right-turn}
 use Rattle.reduce.proofs.check_row.check_whole.Statement.{statement}
 use Rattle.reduce.proofs.check_row.check_whole.Tie as tie
 

@@ -1,5 +1,4 @@
 -- `reduce::level::write_next` meets its contract. The invariant: y rows of all faces are written. The measure is the rows left. Assumes nothing.
-use mathlib.Core.Path.{refl}
 use Prim.Native.Nat.{_*_, _-_}
 use native.Mathlib.Omega.{arith}
 use borrow.Author.Needs.{needs}

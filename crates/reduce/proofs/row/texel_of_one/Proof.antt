@@ -1,6 +1,4 @@
 -- `reduce::row::texel_of_one` meets its contract. Assumes nothing.
-use mathlib.Core.Path.{_∙_}
-use native.Mathlib.Nat.{pos-of-ne-zero}
 use borrow.Author.Needs.{needs}
 use Rattle.kinds.proofs.Codes.{of-srgb}
 use Rattle.reduce.proofs.row.texel_of_one.Statement.{statement}

@@ -3,14 +3,14 @@
 -- the first place that holds something else. Assumes nothing.
 use mathlib.Core.Path.{_≡_, refl, sym, ap, _∙_}
 use mathlib.Core.List.{List}
-use Prim.Native.Nat.{ℕ, _+_, _-_, _*_, _/_, _≤_, _<_, min}
+use Prim.Native.Nat.{ℕ, _+_, _-_, _*_, _/_, _≤_, _<_}
 use native.Mathlib.Nat.{add-zero}
 use native.Mathlib.Omega.{arith}
 use lib.ListN.{length, getD, take, drop}
 use lib.Seq.{set-getD}
 use Rattle.rules.specs.Sizes.{half}
 use Rattle.kinds.specs.Runs.{over, pairOf}
-use Rattle.kinds.proofs.Runs.{Over, over-is, over-first, over-same, over-set, over-ext}
+use Rattle.kinds.proofs.Runs.{Over, over-is, over-first, over-set, over-ext}
 use Rattle.reduce.specs.Rows.{heldOf}
 use Rattle.reduce.specs.Right.{Right}
 use Rattle.reduce.proofs.Rows.{part-at, pair-shift, row-turn, narrow-at, wide-at}

@@ -2,19 +2,19 @@
 -- that is right as a whole makes the run longer by a row; the first row that is not says where the level is right no more. Assumes nothing.
 use mathlib.Core.Path.{_≡_, refl, sym, ap, _∙_}
 use mathlib.Core.List.{List}
-use Prim.Native.Nat.{ℕ, _+_, _-_, _*_, _/_, _%_, _≤_, _<_, min}
+use Prim.Native.Nat.{ℕ, _+_, _-_, _*_, _≤_, _<_}
 use native.Mathlib.Nat.{add-assoc}
 use native.Mathlib.Omega.{arith}
 use lib.ListN.{getD, take, drop}
 use Rattle.rules.specs.Sizes.{half}
 use Rattle.rules.specs.Levels.{grid, next}
 use Rattle.rules.proofs.Grid.{getD-tab}
-use Rattle.kinds.proofs.Runs.{Over, over-is, over-more, over-end}
+use Rattle.kinds.proofs.Runs.{over-is, over-more, over-end}
 use Rattle.reduce.specs.Rows.{heldOf}
 use Rattle.reduce.specs.Levels.{firstRow, secondRow}
 use Rattle.reduce.specs.Right.{Right}
 use Rattle.reduce.proofs.Levels.{cellOf, Rows, rows-places, row-in, held-cell, rows-more}
-use Rattle.reduce.proofs.Rights.{right-all, right-stop, right-ext}
+use Rattle.reduce.proofs.Standing.{right-all, right-stop, right-ext}
 
 module _ {reduce : ℕ → ℕ → ℕ → ℕ → ℕ} {faces w h w2 h2 n : ℕ} {s : List ℕ} {y : ℕ} (t : Rows reduce faces w h w2 h2 n s s y) where
   -- as the definition has it
