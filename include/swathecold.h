@@ -34,6 +34,17 @@ uint32_t swathecold_level_sizes(uint32_t kind, uint32_t width, uint32_t height, 
 uint32_t swathecold_generate_mipmaps(uint32_t kind, uint32_t width, uint32_t height, uint32_t mode,
                                      uint32_t *texels, size_t texels_len, uint64_t *written);
 
+/* Whether every level follows from the one before, whoever made the chain: each of its texels is what four texels of that level, as
+ * they stand there, reduce to by the mode. verdict[0]: 1 where all follow, else 0; verdict[1]: the first wrong texel's index in texels,
+ * and 0 where none is wrong. What swathecold_generate_mipmaps filled by the same mode follows. Entries past the chain are not looked at. */
+uint32_t swathecold_check_chain(uint32_t kind, uint32_t width, uint32_t height, uint32_t mode,
+                                const uint32_t *texels, size_t texels_len, uint64_t verdict[2]);
+
+/* The same of one level; level 0 always follows. One wrong texel shows in its own level, and in the next one at most in the texel that
+ * is made of it: all other levels follow as before. */
+uint32_t swathecold_check_level(uint32_t kind, uint32_t width, uint32_t height, uint32_t mode,
+                                const uint32_t *texels, size_t texels_len, uint32_t level, uint64_t verdict[2]);
+
 /* The six faces of a cross of width * height RGBA pixels, one behind the other. *written: how many texels that is. */
 uint32_t swathecold_cut_cross(uint32_t width, uint32_t height, const uint8_t *bytes, size_t bytes_len,
                               uint32_t *faces, size_t faces_len, uint64_t *written);

@@ -1,6 +1,6 @@
 /* Links the archive by its header and calls every name in it: document 01's reference items, the edges of levels, document 02's
- * packing, ranges and light, a refusal of each call, and that a refusal writes nothing. Prints how many checks held; answers 1 at the first
- * that does not. */
+ * packing, ranges, light and chains of other tools, a refusal of each call, and that a refusal writes nothing. Prints how many checks held;
+ * answers 1 at the first that does not. */
 #include <math.h>
 #include <stdint.h>
 #include <stdio.h>
@@ -83,6 +83,109 @@ static void packing_refused(void) {
     }
     expect(swathecold_generate_mipmaps(LINEAR, 2, 1, NEAREST, texels, 2, &written) == 3, "nearest, one short: refusal 3");
     expect(written == 7 && !memcmp(texels, old, sizeof old), "none of them wrote anything");
+}
+
+/* Whether the verdict on a chain is this one, with a canary behind it. */
+static int found(uint32_t kind, uint32_t w, uint32_t h, uint32_t mode, const uint32_t *texels, size_t len, uint64_t follows, uint64_t place) {
+    uint64_t verdict[3] = {7, 7, CANARY};
+    return swathecold_check_chain(kind, w, h, mode, texels, len, verdict) == 0 && verdict[0] == follows && verdict[1] == place && verdict[2] == CANARY;
+}
+
+/* The same of one level. */
+static int found_in(uint32_t kind, uint32_t w, uint32_t h, uint32_t mode, const uint32_t *texels, size_t len, uint32_t level, uint64_t follows, uint64_t place) {
+    uint64_t verdict[3] = {7, 7, CANARY};
+    return swathecold_check_level(kind, w, h, mode, texels, len, level, verdict) == 0 && verdict[0] == follows && verdict[1] == place && verdict[2] == CANARY;
+}
+
+/* Two texels and what another tool made of them. */
+static void pairs_checked(void) {
+    const struct { uint32_t kind, left, right, made[2]; } items[] = {
+        {LINEAR, 0x00FF00FF, 0xFF0000FF, {0x7F7F00FF, 0x808000FF}}, {NORMAL, 0x01FF80FF, 0x01FF80FF, {0x00FF80FF, 0x01FF80FF}},
+        {METALLIC_ROUGHNESS, 0x11FF0022, 0x3300FF44, {0x11B47F22, 0x11B48022}}, {SRGB, 0xFF0000FF, 0x000000FF, {0xBB0000FF, 0xBB0000FF}}};
+    for (size_t i = 0; i < LEN(items); i++)
+        for (uint32_t mode = TRUNCATING; mode <= NEAREST; mode++) {
+            const uint32_t made = items[i].made[mode], other = items[i].made[!mode], kind = items[i].kind;
+            uint32_t texels[] = {items[i].left, items[i].right, made, CANARY};
+            expect(found(kind, 2, 1, mode, texels, 4, 1, 0) && found(kind, 2, 1, mode, texels, 3, 1, 0), "the paper's item follows");
+            expect(found_in(kind, 2, 1, mode, texels, 3, 0, 1, 0) && found_in(kind, 2, 1, mode, texels, 3, 1, 1, 0), "and so does each of its levels");
+            expect(found(kind, 2, 1, !mode, texels, 3, made == other, made == other ? 0 : 2), "by the other mode only where both make the same");
+            for (int bit = 0; bit < 32; bit++) {
+                texels[2] = made ^ 1u << bit;
+                expect(found(kind, 2, 1, mode, texels, 3, 0, 2) && found_in(kind, 2, 1, mode, texels, 3, 1, 0, 2) && found_in(kind, 2, 1, mode, texels, 3, 0, 1, 0), "one bit is wrong: the texel at 2");
+            }
+        }
+    const uint32_t six[] = {1, 2, 3, 4, 5, CANARY};
+    for (uint32_t kind = SRGB; kind <= LINEAR; kind++)
+        expect(found(kind, 1, 1, NEAREST, six, LEN(six), 1, 0) && found_in(kind, 1, 1, NEAREST, six, LEN(six), 0, 1, 0), "one texel, or six faces of one, follow");
+}
+
+/* 16 by 8: levels of 128, 32, 8, 2 and 1 texels, of a cubemap six times as many. One entry more is a canary. */
+enum { TOP = 4, CHAIN = 171 };
+
+static size_t made_chain(uint32_t kind, uint32_t mode, uint32_t texels[6 * CHAIN + 1]) {
+    uint64_t written = 0;
+    for (uint32_t i = 0; i <= 6 * CHAIN; i++) texels[i] = i * 2654435761u;
+    int filled = swathecold_generate_mipmaps(kind, 16, 8, mode, texels, 6 * CHAIN, &written) == 0;
+    expect(filled && written == (kind == CUBEMAP ? 6 : 1) * CHAIN, "a chain of 16 by 8");
+    texels[written] = CANARY;
+    return (size_t)written;
+}
+
+/* Whether all levels follow but for two, and of these the texels at two places are wrong. A level without one is TOP + 1. */
+static int all_but(uint32_t kind, uint32_t mode, const uint32_t *texels, size_t total, uint32_t first, uint64_t place, uint32_t second, uint64_t made_of_it) {
+    for (uint32_t level = 0; level <= TOP; level++) {
+        int wrong = level == first || level == second;
+        if (!found_in(kind, 16, 8, mode, texels, total, level, !wrong, wrong ? (level == first ? place : made_of_it) : 0)) return 0;
+    }
+    return found(kind, 16, 8, mode, texels, total, first > TOP, first > TOP ? 0 : place);
+}
+
+static void chains_checked(void) {
+    enum { NONE = TOP + 1 };
+    uint32_t texels[6 * CHAIN + 1], old[6 * CHAIN + 1];
+    for (uint32_t kind = SRGB; kind <= LINEAR; kind++)
+        for (uint32_t mode = TRUNCATING; mode <= NEAREST; mode++) {
+            const size_t faces = kind == CUBEMAP ? 6 : 1, total = made_chain(kind, mode, texels), last = total - 1;
+            memcpy(old, texels, sizeof old);
+            expect(all_but(kind, mode, texels, total, NONE, 0, NONE, 0) && all_but(kind, mode, texels, total + 1, NONE, 0, NONE, 0), "what the chain call wrote follows, at every level");
+            texels[last] ^= 1;
+            expect(all_but(kind, mode, texels, total, TOP, last, NONE, 0), "the chain's last texel is wrong");
+            texels[165 * faces] ^= 0x01000000;
+            expect(found(kind, 16, 8, mode, texels, total, 0, 165 * faces), "two are wrong: the smaller place");
+            texels[163 * faces] ^= 0x00010000;
+            expect(found(kind, 16, 8, mode, texels, total, 0, 163 * faces) && found_in(kind, 16, 8, mode, texels, total, 2, 0, 163 * faces), "two of one level: the smaller place");
+            texels[last] = old[last], texels[165 * faces] = old[165 * faces], texels[163 * faces] = old[163 * faces];
+            /* (5, 2) of level 1, in the last face; level 2 has (2, 1) of it */
+            const size_t place = 160 * faces - 32 + 21, of_it = 168 * faces - 8 + 6;
+            texels[place] = ~old[place];
+            expect(all_but(kind, mode, texels, total, 1, place, 2, of_it), "one of level 1 is wrong: in level 2 the one that is made of it, and no further one");
+            texels[place] = old[place], texels[of_it] = ~old[of_it];
+            expect(all_but(kind, mode, texels, total, 2, of_it, 3, 170 * faces - 2 + 1), "one of level 2 is wrong: the same a level on");
+            texels[of_it] = old[of_it], texels[128 * faces - 1] = ~old[128 * faces - 1];
+            expect(all_but(kind, mode, texels, total, 1, 160 * faces - 1, NONE, 0), "level 0 has another last texel: level 1's last is not made of it");
+            texels[128 * faces - 1] = old[128 * faces - 1];
+            expect(!memcmp(texels, old, sizeof old), "nothing was written");
+        }
+    const uint32_t third[] = {0x10203040, 0x30405060, 0xFFFFFFFF, 0x20304050};
+    expect(found(LINEAR, 3, 1, TRUNCATING, third, 4, 1, 0), "the third column takes no part");
+}
+
+static void checks_refused(void) {
+    const uint32_t texels[4] = {0x00FF00FF, 0xFF0000FF, 0x7F7F00FF, CANARY};
+    const uint32_t unknown[] = {2, 3, 255, 256, 0x80000000u, UINT32_MAX}, above[] = {2, 3, 31, 32, 0x80000000u, UINT32_MAX};
+    uint64_t verdict[2] = {7, 7};
+    for (size_t i = 0; i < LEN(unknown); i++) {
+        const uint32_t mode = unknown[i], level = above[i];
+        expect(swathecold_check_chain(5, 0, 1, mode, texels, 0, verdict) == 1 && swathecold_check_level(5, 0, 1, mode, texels, 0, level, verdict) == 1, "kind 5: 1 before 2, 3, 15 and 6");
+        expect(swathecold_check_chain(LINEAR, 2, 4097, mode, texels, 0, verdict) == 2 && swathecold_check_level(LINEAR, 0, 1, mode, texels, 0, level, verdict) == 2, "sides 4097 and 0: 2 before 3, 15 and 6");
+        expect(swathecold_check_chain(LINEAR, 2, 1, mode, texels, 2, verdict) == 3 && swathecold_check_level(LINEAR, 2, 1, mode, texels, 2, level, verdict) == 3, "one short: 3 before 15 and 6");
+        expect(swathecold_check_chain(LINEAR, 2, 1, mode, texels, 3, verdict) == 15 && swathecold_check_level(LINEAR, 2, 1, mode, texels, 3, level, verdict) == 15, "an unknown mode: 15 before 6");
+        expect(swathecold_check_level(LINEAR, 2, 1, mode, texels, 3, 0, verdict) == 15, "an unknown mode: refusal 15 at level 0 too");
+        expect(swathecold_check_level(LINEAR, 2, 1, TRUNCATING, texels, 3, level, verdict) == 6, "a level above the top: refusal 6");
+    }
+    expect(swathecold_check_level(LINEAR, 1, 1, NEAREST, texels, 1, 1, verdict) == 6, "level 1 of one texel: refusal 6");
+    expect(swathecold_check_chain(CUBEMAP, 1, 1, NEAREST, texels, 4, verdict) == 3, "four of six faces: refusal 3");
+    expect(verdict[0] == 7 && verdict[1] == 7, "none of them wrote anything");
 }
 
 static void parts(void) {
@@ -338,6 +441,9 @@ int main(void) {
     sizes_and_chain();
     packing();
     packing_refused();
+    pairs_checked();
+    chains_checked();
+    checks_refused();
     parts();
     flat_lookups();
     edges();

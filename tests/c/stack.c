@@ -1,6 +1,6 @@
-/* How deep the stack of a chain call goes, by kind and mode. The call runs on a stack of its own that was painted beforehand: what is no longer
- * painted was used. The pictures have 13 levels, the most there are, one far wider than high, one far higher than wide. Prints each
- * depth in bytes; answers 1 where one goes past its kind's limit. */
+/* How deep the stack of a chain call and of a check of its chain goes, by kind and mode. The call runs on a stack of its own that was painted
+ * beforehand: what is no longer painted was used. The pictures have 13 levels, the most there are, one far wider than high, one far higher
+ * than wide. Prints each depth in bytes; answers 1 where one goes past its kind's limit. */
 #define _XOPEN_SOURCE 700
 #include <stdint.h>
 #include <stdio.h>
@@ -31,6 +31,17 @@ static void chain(void) {
     refused = swathecold_generate_mipmaps(kind, width, height, mode, texels, TEXELS, &written);
 }
 
+static void check(void) {
+    uint64_t verdict[2] = {0, 0};
+    refused = swathecold_check_chain(kind, width, height, mode, texels, TEXELS, verdict);
+    if (verdict[0] != 1) abort();
+}
+
+static const struct {
+    const char *name;
+    void (*work)(void);
+} calls[] = {{"chain call", chain}, {"check", check}};
+
 static size_t used(void (*work)(void)) {
     memset(stack, PAINT, ROOM);
     if (getcontext(&there) != 0) abort();
@@ -44,23 +55,25 @@ static size_t used(void (*work)(void)) {
     return ROOM - painted;
 }
 
-/* The first call is not measured: the loader may look names up in it. */
-static size_t depth(uint32_t w, uint32_t h) {
+/* The chain is made before its check. The first call is not measured: the loader may look names up in it. */
+static size_t depth(void (*work)(void), uint32_t w, uint32_t h) {
     width = w, height = h;
     for (size_t i = 0; i < TEXELS; i++) texels[i] = (uint32_t)(i * 2654435761u);
-    used(chain);
-    size_t of_the_call = used(chain) - used(nothing);
+    chain();
+    used(work);
+    size_t of_the_call = used(work) - used(nothing);
     if (refused != 0) abort();
     return of_the_call;
 }
 
 int main(void) {
     int past = 0;
-    for (mode = 0; mode < sizeof modes / sizeof *modes; mode++)
-        for (kind = 0; kind < sizeof kinds / sizeof *kinds; kind++) {
-            size_t wide = depth(LONG, SHORT), high = depth(SHORT, LONG), deepest = wide > high ? wide : high;
-            printf("stack of a chain call, %s, %s: %zu bytes, limit %zu\n", kinds[kind].name, modes[mode], deepest, kinds[kind].limit);
-            past |= deepest > kinds[kind].limit;
-        }
+    for (size_t call = 0; call < sizeof calls / sizeof *calls; call++)
+        for (mode = 0; mode < sizeof modes / sizeof *modes; mode++)
+            for (kind = 0; kind < sizeof kinds / sizeof *kinds; kind++) {
+                size_t wide = depth(calls[call].work, LONG, SHORT), high = depth(calls[call].work, SHORT, LONG), deepest = wide > high ? wide : high;
+                printf("stack of a %s, %s, %s: %zu bytes, limit %zu\n", calls[call].name, kinds[kind].name, modes[mode], deepest, kinds[kind].limit);
+                past |= deepest > kinds[kind].limit;
+            }
     return past;
 }
