@@ -11,6 +11,25 @@ extern "C" {
         len: usize,
         written: *mut u64,
     ) -> u32;
+    pub fn swathecold_check_chain(
+        kind: u32,
+        width: u32,
+        height: u32,
+        mode: u32,
+        texels: *const u32,
+        len: usize,
+        verdict: *mut u64,
+    ) -> u32;
+    pub fn swathecold_check_level(
+        kind: u32,
+        width: u32,
+        height: u32,
+        mode: u32,
+        texels: *const u32,
+        len: usize,
+        level: u32,
+        verdict: *mut u64,
+    ) -> u32;
     pub fn swathecold_cut_cross(
         width: u32,
         height: u32,

@@ -7,6 +7,7 @@ use crate::boundary as c;
 use crate::irradiance::IrradianceSh4;
 use crate::refusal::Refusal;
 use crate::types::{CubemapUv, Cut, Lanes, LevelSizes, Sampler, Vec3x4};
+use crate::verdict::Verdict;
 
 /// Twelve numbers as the boundary hands them out: four reds, four greens, four blues.
 fn lanes_of(rgb: [f32; 12]) -> Vec3x4 {
@@ -50,6 +51,63 @@ pub fn generate_mipmaps(
     let (at, len) = (texels.as_mut_ptr(), texels.len());
     Refusal::of(unsafe { c::swathecold_generate_mipmaps(kind.into(), width, height, packing.into(), at, len, &mut written) })?;
     Ok(written as usize)
+}
+
+/// Whether every level of a chain follows from the one before, whoever made it, or which texel is the first that is wrong. Entries past
+/// the chain are not looked at. Refusals: 1, 2, 3, 15.
+///
+/// ```
+/// use swathecold::{check_chain, Packing, TextureType, Verdict};
+/// // another tool's chain of two texels: it has rounded their mean
+/// let chain = [0x00FF00FF, 0xFF0000FF, 0x808000FF];
+/// assert_eq!(check_chain(TextureType::Linear, 2, 1, Packing::Nearest, &chain)?, Verdict::Follows);
+///
+/// let truncated = check_chain(TextureType::Linear, 2, 1, Packing::Truncating, &chain)?;
+/// let said = "wrong at texel 2 (level 1, face 0, x 0, y 0): found 808000FF, expected 7F7F00FF";
+/// assert_eq!(truncated.to_string(), said);
+/// # Ok::<(), swathecold::Refusal>(())
+/// ```
+pub fn check_chain(
+    kind: impl Into<u32>,
+    width: u32,
+    height: u32,
+    packing: impl Into<u32>,
+    texels: &[u32],
+) -> Result<Verdict, Refusal> {
+    let (kind, packing, at, len) = (kind.into(), packing.into(), texels.as_ptr(), texels.len());
+    let mut verdict = [0u64; 2];
+    Refusal::of(unsafe { c::swathecold_check_chain(kind, width, height, packing, at, len, verdict.as_mut_ptr()) })?;
+    Verdict::of(verdict, kind, width, height, packing, texels)
+}
+
+/// The same of one level, given the one before as it is found in the chain; level 0 always follows. One wrong texel shows in its own
+/// level, and in the next one at most in the texel that is made of it. Refusals: 1, 2, 3, 15, 6.
+///
+/// ```
+/// use swathecold::{check_level, Packing, Picture, TextureType};
+/// let picture = Picture::new(TextureType::Linear, 16, 1, &[0x20202020; 16])?;
+/// let mut chain = picture.texels().to_vec();
+///
+/// // a texel of level 1: levels 3 and 4 are not blamed for it
+/// chain[17] = 0xA0A0A0A0;
+/// for (level, follows) in [true, false, false, true, true].into_iter().enumerate() {
+///     let verdict = check_level(TextureType::Linear, 16, 1, Packing::Truncating, &chain, level as u32)?;
+///     assert_eq!(verdict.follows(), follows, "level {level}: {verdict}");
+/// }
+/// # Ok::<(), swathecold::Refusal>(())
+/// ```
+pub fn check_level(
+    kind: impl Into<u32>,
+    width: u32,
+    height: u32,
+    packing: impl Into<u32>,
+    texels: &[u32],
+    level: u32,
+) -> Result<Verdict, Refusal> {
+    let (kind, packing, at, len) = (kind.into(), packing.into(), texels.as_ptr(), texels.len());
+    let mut verdict = [0u64; 2];
+    Refusal::of(unsafe { c::swathecold_check_level(kind, width, height, packing, at, len, level, verdict.as_mut_ptr()) })?;
+    Verdict::of(verdict, kind, width, height, packing, texels)
 }
 
 /// The six faces of a cross of `width * height` RGBA pixels, one behind the other; answers the texels written. Refusals: 10, 3.

@@ -1,8 +1,9 @@
 //! The texture unit of a viewing station: reducing pictures, cutting them, and looking colours up in them.
 //!
 //! The work is done by a library that is proved, call by call, against a paper of rules. This crate gives it Rust's types: slices
-//! for buffers, [`Refusal`] for the numbers, [`Picture`] for a chain that the unit made itself, [`Packing`] for how its bytes are
-//! rounded, [`Ranges`] for the smallest and largest values of a picture's tiles, [`IrradianceSh4`] for the light of a cubemap.
+//! for buffers, [`Refusal`] for the numbers, [`Picture`] for a chain that the unit made itself or found to be right, [`Packing`] for
+//! how its bytes are rounded, [`Verdict`] for what is wrong with another tool's chain, [`Ranges`] for the smallest and largest values
+//! of a picture's tiles, [`IrradianceSh4`] for the light of a cubemap.
 //!
 //! ```
 //! use swathecold::{Picture, TextureType};
@@ -22,14 +23,16 @@ mod picture;
 mod ranges;
 mod refusal;
 mod types;
+mod verdict;
 
 pub use calls::{
-    build_ranges, compute_mip_level, cubemap_uv_from_normal, cut, cut_cross, generate_mipmaps, irradiance_sh4, level_sizes,
-    level_view, replace_texel, sample4_alpha, sample4_rgb, sample_bilinear_alpha, sample_bilinear_rgb, sample_cubemap_rgb,
-    sample_cubemap_trilinear_rgb,
+    build_ranges, check_chain, check_level, compute_mip_level, cubemap_uv_from_normal, cut, cut_cross, generate_mipmaps,
+    irradiance_sh4, level_sizes, level_view, replace_texel, sample4_alpha, sample4_rgb, sample_bilinear_alpha,
+    sample_bilinear_rgb, sample_cubemap_rgb, sample_cubemap_trilinear_rgb,
 };
 pub use irradiance::IrradianceSh4;
 pub use picture::Picture;
 pub use ranges::{Ranges, Tile};
 pub use refusal::Refusal;
 pub use types::{CubemapUv, Cut, Lanes, LevelSizes, Packing, Sampler, TextureType, Vec3x4, WrapMode};
+pub use verdict::{NotTaken, Verdict};

@@ -1,12 +1,13 @@
-//! A picture with its levels, made by the unit.
+//! A picture with its levels, made or checked by the unit.
 
 use crate::calls;
 use crate::irradiance::IrradianceSh4;
 use crate::ranges::Ranges;
 use crate::refusal::Refusal;
 use crate::types::{Cut, Lanes, LevelSizes, Packing, Sampler, TextureType, Vec3x4};
+use crate::verdict::NotTaken;
 
-/// A picture with all its levels. It holds its chain to itself, so the levels are always those that the unit made of its level 0,
+/// A picture with all its levels. It holds its chain to itself, so the levels are always those that the unit makes of its level 0,
 /// and it says how often that level 0 was reduced since it was brought in, and by which packing. Pictures that are made of it keep
 /// that packing, so no chain has levels of both.
 ///
@@ -75,6 +76,37 @@ impl Picture {
         texels.resize(total, 0);
         calls::generate_mipmaps(texture_type, width, height, packing, &mut texels)?;
         Ok(Picture { texture_type, width, height, packing, reductions: 0, texels })
+    }
+
+    /// The picture whose chain begins `chain`, levels and all, as another tool made it by the packing that is named: taken only where
+    /// every level follows from the one before. It is then the picture that [`Picture::with_packing`] makes of its level 0.
+    /// Refusals: as of `new`.
+    ///
+    /// ```
+    /// use swathecold::{NotTaken, Packing, Picture, TextureType};
+    /// let sent = [0x00FF00FF, 0xFF0000FF, 0x808000FF];
+    /// let picture = Picture::from_chain(TextureType::Linear, 2, 1, Packing::Nearest, &sent)?;
+    /// assert_eq!(picture, Picture::with_packing(TextureType::Linear, 2, 1, Packing::Nearest, &sent)?);
+    ///
+    /// match Picture::from_chain(TextureType::Linear, 2, 1, Packing::Truncating, &sent) {
+    ///     Err(NotTaken::Wrong(verdict)) => println!("{verdict}"),
+    ///     other => panic!("{other:?}"),
+    /// }
+    /// # Ok::<(), NotTaken>(())
+    /// ```
+    pub fn from_chain(
+        texture_type: TextureType,
+        width: u32,
+        height: u32,
+        packing: Packing,
+        chain: &[u32],
+    ) -> Result<Picture, NotTaken> {
+        let verdict = calls::check_chain(texture_type, width, height, packing, chain)?;
+        if !verdict.follows() {
+            return Err(NotTaken::Wrong(verdict));
+        }
+        let LevelSizes { total, .. } = calls::level_sizes(texture_type, width, height, 0)?;
+        Ok(Picture { texture_type, width, height, packing, reductions: 0, texels: chain[..total].to_vec() })
     }
 
     /// The picture of a level 0 that was reduced this often, all by one packing. Refusals: as of `new`.
