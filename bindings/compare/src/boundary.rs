@@ -1,6 +1,6 @@
 //! The unit itself, through its C boundary: the names, the order of parameters and the meaning of swathecold.h.
 
-use crate::plain::{Cut, Lanes, Lent, Replacement};
+use crate::plain::{Cut, Lanes, Lent, Replacement, Verdict};
 use crate::unit::{Directions, Picture, Unit};
 
 /// A slice is a pointer and then its length in elements; an array is a pointer to that many elements.
@@ -10,6 +10,10 @@ mod c {
         pub fn swathecold_level_sizes(kind: u32, width: u32, height: u32, level: u32, sizes: *mut u64) -> u32;
         pub fn swathecold_generate_mipmaps(kind: u32, width: u32, height: u32, mode: u32, texels: *mut u32,
                                            texels_len: usize, written: *mut u64) -> u32;
+        pub fn swathecold_check_chain(kind: u32, width: u32, height: u32, mode: u32, texels: *const u32,
+                                      texels_len: usize, verdict: *mut u64) -> u32;
+        pub fn swathecold_check_level(kind: u32, width: u32, height: u32, mode: u32, texels: *const u32,
+                                      texels_len: usize, level: u32, verdict: *mut u64) -> u32;
         pub fn swathecold_cut_cross(width: u32, height: u32, bytes: *const u8, bytes_len: usize, faces: *mut u32,
                                     faces_len: usize, written: *mut u64) -> u32;
         pub fn swathecold_cut(kind: u32, width: u32, height: u32, source: *const u32, source_len: usize,
@@ -171,6 +175,20 @@ impl Unit for Boundary {
     fn irradiance_sh4(&self, p: &Lent, sh: &mut [f32; 12]) -> u32 {
         unsafe {
             c::swathecold_irradiance_sh4(p.kind, p.width, p.height, p.texels.as_ptr(), p.texels.len(), sh.as_mut_ptr())
+        }
+    }
+
+    fn check_chain(&self, p: &Lent, mode: u32, verdict: &mut Verdict) -> u32 {
+        unsafe {
+            c::swathecold_check_chain(p.kind, p.width, p.height, mode, p.texels.as_ptr(), p.texels.len(),
+                                      verdict.as_mut_ptr())
+        }
+    }
+
+    fn check_level(&self, p: &Lent, mode: u32, level: u32, verdict: &mut Verdict) -> u32 {
+        unsafe {
+            c::swathecold_check_level(p.kind, p.width, p.height, mode, p.texels.as_ptr(), p.texels.len(), level,
+                                      verdict.as_mut_ptr())
         }
     }
 }

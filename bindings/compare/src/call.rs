@@ -4,8 +4,8 @@ use crate::plain::{Cut, Lanes, Lent, Replacement};
 use crate::unit::{Directions, Picture, Unit};
 use std::panic::{catch_unwind, AssertUnwindSafe};
 
-/// The names of the calls, in the order of swathecold.h.
-pub const NAMES: [&str; 16] = [
+/// The names of the calls by their numbers: in the order of swathecold.h, but for the two checks, which came last.
+pub const NAMES: [&str; 18] = [
     "level_sizes",
     "generate_mipmaps",
     "cut_cross",
@@ -22,6 +22,8 @@ pub const NAMES: [&str; 16] = [
     "build_ranges",
     "replace_texel",
     "irradiance_sh4",
+    "check_chain",
+    "check_level",
 ];
 
 /// A call of swathecold.h. A buffer that is written is given as it is before the call.
@@ -44,6 +46,8 @@ pub enum Call<'a> {
     BuildRanges { picture: Lent<'a>, ranges: &'a [u8] },
     ReplaceTexel { picture: Lent<'a>, ranges: &'a [u8], replacement: Replacement },
     IrradianceSh4 { picture: Lent<'a> },
+    CheckChain { picture: Lent<'a>, mode: u32 },
+    CheckLevel { picture: Lent<'a>, mode: u32, level: u32 },
 }
 
 impl<'a> Call<'a> {
@@ -66,6 +70,8 @@ impl<'a> Call<'a> {
             Call::BuildRanges { .. } => 13,
             Call::ReplaceTexel { .. } => 14,
             Call::IrradianceSh4 { .. } => 15,
+            Call::CheckChain { .. } => 16,
+            Call::CheckLevel { .. } => 17,
         }
     }
 
@@ -82,7 +88,9 @@ impl<'a> Call<'a> {
             Call::LevelView { picture, .. }
             | Call::BuildRanges { picture, .. }
             | Call::ReplaceTexel { picture, .. }
-            | Call::IrradianceSh4 { picture } => Some(picture.kind),
+            | Call::IrradianceSh4 { picture }
+            | Call::CheckChain { picture, .. }
+            | Call::CheckLevel { picture, .. } => Some(picture.kind),
             Call::CutCross { .. } | Call::ComputeMipLevel { .. } | Call::CubemapUvFromNormal { .. } => None,
             _ => self.picture().map(|picture| picture.lent.kind),
         }
@@ -109,7 +117,9 @@ impl<'a> Call<'a> {
             Call::Cut { target, .. } => target,
             Call::BuildRanges { picture, .. }
             | Call::ReplaceTexel { picture, .. }
-            | Call::IrradianceSh4 { picture } => picture.texels,
+            | Call::IrradianceSh4 { picture }
+            | Call::CheckChain { picture, .. }
+            | Call::CheckLevel { picture, .. } => picture.texels,
             _ => &[],
         }
     }
@@ -133,7 +143,9 @@ impl<'a> Call<'a> {
             Call::LevelView { picture, .. }
             | Call::BuildRanges { picture, .. }
             | Call::ReplaceTexel { picture, .. }
-            | Call::IrradianceSh4 { picture } => (picture.width, picture.height),
+            | Call::IrradianceSh4 { picture }
+            | Call::CheckChain { picture, .. }
+            | Call::CheckLevel { picture, .. } => (picture.width, picture.height),
             _ => self
                 .picture()
                 .map_or((0, 0), |picture| (picture.lent.width, picture.lent.height)),
@@ -253,6 +265,12 @@ pub fn ask(unit: &dyn Unit, call: &Call, outcome: &mut Outcome) {
             ..
         } => unit.replace_texel(p.kind, p.width, p.height, lent, ranges, replacement),
         Call::IrradianceSh4 { picture } => floats(words, |sh| unit.irradiance_sh4(&over(lent, picture), sh)),
+        Call::CheckChain { picture, mode } => {
+            wide(words, |verdict| unit.check_chain(&over(lent, picture), *mode, verdict))
+        }
+        Call::CheckLevel { picture, mode, level } => wide(words, |verdict| {
+            unit.check_level(&over(lent, picture), *mode, *level, verdict)
+        }),
         _ => ask_lookup(unit, call, words),
     });
     outcome.refusal = catch_unwind(answered).unwrap_or(PANICKED);

@@ -99,6 +99,8 @@ pub struct Comparison {
     reading: Box<dyn Unit>,
     /// How often the reading gave each refusal number, by call.
     pub given: [[u64; REFUSALS]; NAMES.len()],
+    /// How often it found that a chain or a level follows, and how often that it does not, by call.
+    pub verdicts: [[u64; 2]; NAMES.len()],
     pub others: Vec<Other>,
     /// Asks one that differed no more.
     pub until_seen: bool,
@@ -112,6 +114,7 @@ impl Comparison {
         Comparison {
             reading,
             given: [[0; REFUSALS]; NAMES.len()],
+            verdicts: [[0; 2]; NAMES.len()],
             others: Vec::new(),
             until_seen: false,
             expected: Outcome::new(),
@@ -136,6 +139,9 @@ impl Comparison {
         }
         ask_reading(&*self.reading, call, &mut self.expected);
         self.given[call.number()][self.expected.refusal as usize] += 1;
+        if let Some(follows) = follows(call, &self.expected) {
+            self.verdicts[call.number()][!follows as usize] += 1;
+        }
         let refused = self.expected.refusal != 0;
         for other in &mut self.others {
             let seen = self.until_seen && other.differences() > 0;
@@ -168,6 +174,12 @@ fn refuses_cleanly(call: &Call, outcome: &Outcome) -> bool {
         && outcome.buffer.starts_with(call.before())
         && outcome.ranges.starts_with(call.ranges_before());
     outcome.refusal == 0 || untouched
+}
+
+/// What an accepted check found.
+fn follows(call: &Call, outcome: &Outcome) -> Option<bool> {
+    let is_check = matches!(call, Call::CheckChain { .. } | Call::CheckLevel { .. });
+    (is_check && outcome.refusal == 0).then_some(outcome.words[0] == 1)
 }
 
 /// Keeps the smaller of two, the earlier where they are as large.

@@ -18,5 +18,6 @@ pub mod slips;
 mod smaller;
 #[cfg(source)]
 pub mod source;
+mod tails;
 pub mod text;
 pub mod unit;

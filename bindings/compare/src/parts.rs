@@ -1,4 +1,4 @@
-//! Smaller pictures for document 02's calls: parts of a call's picture, each lent as the whole was.
+//! Smaller pictures for document 02's calls that read level 0: parts of a call's picture, each lent as the whole was.
 
 use crate::call::{Call, Outcome, UNTOUCHED};
 use crate::plain::{level_texels, ranges_bytes, Document01, Lent, Replacement};

@@ -1,6 +1,6 @@
 //! The plain reading as a unit, by any rules: 01's own, or those with one slip.
 
-use crate::plain::{self, Answer, Cut, Lanes, Lent, Replacement, Rules};
+use crate::plain::{self, Answer, Cut, Lanes, Lent, Replacement, Rules, Verdict};
 use crate::unit::{Directions, Picture, Unit};
 use std::marker::PhantomData;
 
@@ -96,5 +96,13 @@ impl<R: Rules> Unit for Reading<R> {
 
     fn irradiance_sh4(&self, picture: &Lent, sh: &mut [f32; 12]) -> u32 {
         put(plain::irradiance_sh4::<R>(picture), sh)
+    }
+
+    fn check_chain(&self, picture: &Lent, mode: u32, verdict: &mut Verdict) -> u32 {
+        put(plain::check_chain::<R>(picture, mode), verdict)
+    }
+
+    fn check_level(&self, picture: &Lent, mode: u32, level: u32, verdict: &mut Verdict) -> u32 {
+        put(plain::check_level::<R>(picture, mode, level), verdict)
     }
 }

@@ -23,7 +23,16 @@ fn refusals_given(comparison: &Comparison) -> String {
         let counts = NUMBERS.map(|number| given[number as usize].to_string());
         let _ = writeln!(text, "| {} | {} |", NAMES[call], counts.join(" | "));
     }
-    text
+    text + &verdicts_given(comparison)
+}
+
+/// How many of the accepted checks found that their chain or level follows.
+fn verdicts_given(comparison: &Comparison) -> String {
+    let found = comparison.verdicts.iter().enumerate();
+    found
+        .filter(|(_, [follow, do_not])| follow + do_not > 0)
+        .map(|(call, [follow, do_not])| format!("\n{}: {follow} follow, {do_not} do not\n", NAMES[call]))
+        .collect()
 }
 
 /// The report of one.

@@ -1,9 +1,10 @@
 //! Deliberate slips, each in one rule of the plain reading. The comparison is tried on them: it must see every one.
 
-use crate::plain::{decoded, Axis, Document01, Rules, Wrap, NEAREST, TRUNCATING};
+use crate::plain::{decoded, Axis, Document01, Rules, Verdict, Wrap, NEAREST, TRUNCATING};
 use crate::random::ulps;
 use crate::reading::Reading;
 use crate::unit::Unit;
+use std::ops::RangeInclusive;
 
 /// A slip: rules that are 01's but for what is given.
 macro_rules! slips {
@@ -254,4 +255,35 @@ slips! {
 
     /// Refusal 15 before 3.
     FifteenBeforeThree { const ORDER: [u32; 9] = [1, 2, 15, 3, 8, 4, 6, 7, 5]; }
+
+    /// A level judged by the chain worked out afresh from level 0.
+    JudgedAfresh { fn made_again_for(m: u32) -> RangeInclusive<u32> { 1..=m } }
+
+    /// A level judged together with those before it.
+    LevelsBeforeJudged { fn judged_for(level: u32) -> RangeInclusive<u32> { 0..=level } }
+
+    /// Level 0 as one that does not follow.
+    Level0Wrong { const OF_LEVEL_0: Verdict = [0, 0]; }
+
+    /// The chain's last texel left out.
+    LastTexelLeftOut { fn judged_end(end_of_level: usize, end_of_chain: usize) -> usize { end_of_level.min(end_of_chain - 1) } }
+
+    /// The largest place of a wrong texel.
+    LargestPlace { fn first_wrong(places: &[usize]) -> Option<usize> { places.iter().copied().max() } }
+
+    /// A place counted within its level.
+    PlaceInLevel { fn place_of(place: usize, start_of_level: usize) -> usize { place - start_of_level } }
+
+    /// Judged as if truncated, whatever the mode.
+    CheckTruncates { fn mode_of_check(_mode: u32) -> u32 { TRUNCATING } }
+
+    /// A channel that is one off taken for right.
+    OneOffTaken {
+        fn is_wrong(found: u32, made: u32) -> bool {
+            found.to_be_bytes().iter().zip(made.to_be_bytes()).any(|(a, b)| a.abs_diff(b) > 1)
+        }
+    }
+
+    /// Refusal 6 before 15.
+    SixBeforeFifteen { const ORDER: [u32; 9] = [1, 2, 3, 8, 4, 6, 15, 7, 5]; }
 }

@@ -3,8 +3,9 @@
 use crate::call::{ask, Call, Outcome, UNTOUCHED};
 use crate::left_out::left_out;
 use crate::parts::parts;
-use crate::plain::{level_sizes, top_level, Document01, Lanes, CUBEMAP};
-use crate::text::{shown, Shown};
+use crate::plain::{Lanes, Lent, CUBEMAP};
+use crate::tails::{four_texels, tails};
+use crate::text::{first, shown, Shown};
 use crate::unit::{Directions, Unit};
 
 /// The difference of the smallest call found, the call itself where none is smaller.
@@ -32,10 +33,7 @@ pub fn smaller(
             least = found;
         }
     };
-    if let Some((kind, mode, four)) = four_texels(call, expected, got) {
-        let faces = if kind == CUBEMAP { 6 } else { 1 };
-        let mut texels = four.repeat(faces);
-        texels.resize(5 * faces, UNTOUCHED);
+    if let Some((kind, mode, texels)) = square(call, expected, got) {
         attempt(&Call::GenerateMipmaps {
             kind,
             width: 2,
@@ -52,11 +50,14 @@ pub fn smaller(
     for part in parts(call, expected, got) {
         attempt(&part.call());
     }
+    for tail in tails(call, expected, got) {
+        attempt(&tail.call());
+    }
     least
 }
 
-/// The kind, the mode and the four texels from which a chain's first wrong texel was to be made.
-fn four_texels(call: &Call, expected: &Outcome, got: &Outcome) -> Option<(u32, u32, [u32; 4])> {
+/// The picture of the four texels from which a chain's first wrong texel was to be made: its kind, its mode and its texels.
+fn square(call: &Call, expected: &Outcome, got: &Outcome) -> Option<(u32, u32, Vec<u32>)> {
     let Call::GenerateMipmaps {
         kind,
         width,
@@ -67,25 +68,17 @@ fn four_texels(call: &Call, expected: &Outcome, got: &Outcome) -> Option<(u32, u
     else {
         return None;
     };
-    let wrong = expected.buffer.iter().zip(&got.buffer).position(|(a, b)| a != b)?;
-    for m in 1..=top_level(width, height) {
-        let [start, w, h, _] = level_sizes::<Document01>(kind, width, height, m)
-            .ok()?
-            .map(|n| n as usize);
-        let [before, w0, h0, _] = level_sizes::<Document01>(kind, width, height, m - 1)
-            .ok()?
-            .map(|n| n as usize);
-        let faces = if kind == CUBEMAP { 6 } else { 1 };
-        if wrong < start || wrong >= start + faces * w * h {
-            continue;
-        }
-        let (face, place) = ((wrong - start) / (w * h), (wrong - start) % (w * h));
-        let (x0, y0) = (place % w * 2, place / w * 2);
-        let (x1, y1) = ((x0 + 1).min(w0 - 1), (y0 + 1).min(h0 - 1));
-        let at = |x: usize, y: usize| expected.buffer[before + face * w0 * h0 + y * w0 + x];
-        return Some((kind, mode, [at(x0, y0), at(x1, y0), at(x0, y1), at(x1, y1)]));
-    }
-    None
+    let chain = Lent {
+        kind,
+        width,
+        height,
+        texels: &expected.buffer,
+    };
+    let four = four_texels(&chain, first(&expected.buffer, &got.buffer)?)?;
+    let faces = if kind == CUBEMAP { 6 } else { 1 };
+    let mut texels = four.repeat(faces);
+    texels.resize(5 * faces, UNTOUCHED);
+    Some((kind, mode, texels))
 }
 
 /// The call with one of its lanes in the place of all four.

@@ -1,9 +1,9 @@
-//! The source's own text as a unit. It has no refusals, no cut and no ranges: it is asked only what document 01 accepts.
+//! The source's own text as a unit. It has no refusals, no cut, no ranges and no check: it is asked only what document 01 accepts.
 //! It truncates, so a chain in nearest mode is not asked of it. Its coefficients are by other rules than document 02's, and are
 //! no part of the comparison.
 
 use crate::call::Call;
-use crate::plain::{Cut, Lanes, Lent, Replacement, CUBEMAP, TRUNCATING};
+use crate::plain::{Cut, Lanes, Lent, Replacement, Verdict, CUBEMAP, TRUNCATING};
 use crate::unit::{Directions, Picture, Unit};
 use glam::{UVec4, Vec4};
 use std::cell::RefCell;
@@ -142,7 +142,8 @@ impl Source {
 impl Unit for Source {
     fn has(&self, call: &Call) -> bool {
         match call {
-            Call::Cut { .. } | Call::BuildRanges { .. } | Call::ReplaceTexel { .. } | Call::IrradianceSh4 { .. } => false,
+            Call::Cut { .. } | Call::BuildRanges { .. } | Call::ReplaceTexel { .. } | Call::IrradianceSh4 { .. }
+            | Call::CheckChain { .. } | Call::CheckLevel { .. } => false,
             Call::GenerateMipmaps { mode, .. } => *mode == TRUNCATING,
             Call::LevelSizes { width, height, .. } => *width as u64 * *height as u64 <= LARGEST_FOR_SIZES,
             Call::LevelView { picture, .. } => picture.width as u64 * picture.height as u64 <= LARGEST_FOR_SIZES,
@@ -264,5 +265,13 @@ impl Unit for Source {
             [c.x, c.y, c.z][i % 3]
         });
         0
+    }
+
+    fn check_chain(&self, _picture: &Lent, _mode: u32, _verdict: &mut Verdict) -> u32 {
+        unreachable!("the source has no check")
+    }
+
+    fn check_level(&self, _picture: &Lent, _mode: u32, _level: u32, _verdict: &mut Verdict) -> u32 {
+        unreachable!("the source has no check")
     }
 }

@@ -104,6 +104,12 @@ fn arguments(call: &Call) -> String {
             format!("{width} by {height}, steps {}", Floats(steps))
         }
         Call::IrradianceSh4 { picture: p } => picture(p),
+        Call::CheckChain { picture: p, mode } => format!("{}, mode {mode}", picture(p)),
+        Call::CheckLevel {
+            picture: p,
+            mode,
+            level,
+        } => format!("{}, mode {mode}, level {level}", picture(p)),
         Call::BuildRanges { picture: p, ranges } => format!("{}, ranges {}", picture(p), Bytes(ranges)),
         Call::ReplaceTexel {
             picture: p,

@@ -2,7 +2,7 @@
 //! what it has to say only where it answers 0.
 
 use crate::call::Call;
-use crate::plain::{Cut, Lanes, Lent, Replacement};
+use crate::plain::{Cut, Lanes, Lent, Replacement, Verdict};
 
 /// A picture lent to lookups. Equal numbers stand for equal texels, so a unit may keep what it made of them.
 #[derive(Clone, Copy)]
@@ -49,4 +49,6 @@ pub trait Unit {
     fn replace_texel(&self, kind: u32, width: u32, height: u32, texels: &mut [u32], ranges: &mut [u8],
                      replacement: &Replacement) -> u32;
     fn irradiance_sh4(&self, picture: &Lent, sh: &mut [f32; 12]) -> u32;
+    fn check_chain(&self, picture: &Lent, mode: u32, verdict: &mut Verdict) -> u32;
+    fn check_level(&self, picture: &Lent, mode: u32, level: u32, verdict: &mut Verdict) -> u32;
 }

@@ -3,7 +3,7 @@
 use std::panic::{catch_unwind, AssertUnwindSafe};
 use swathecold_compare::call::Call;
 use swathecold_compare::comparison::Comparison;
-use swathecold_compare::plain::{Cut, Document01, Lanes, Lent, Replacement};
+use swathecold_compare::plain::{Cut, Document01, Lanes, Lent, Replacement, Verdict};
 use swathecold_compare::reading::Reading;
 use swathecold_compare::unit::{Directions, Picture, Unit};
 
@@ -29,6 +29,8 @@ impl Unit for Always {
     fn build_ranges(&self, _: &Lent, _: &mut [u8], _: &mut u64) -> u32 { self.0 }
     fn replace_texel(&self, _: u32, _: u32, _: u32, _: &mut [u32], _: &mut [u8], _: &Replacement) -> u32 { self.0 }
     fn irradiance_sh4(&self, _: &Lent, _: &mut [f32; 12]) -> u32 { self.0 }
+    fn check_chain(&self, _: &Lent, _: u32, _: &mut Verdict) -> u32 { self.0 }
+    fn check_level(&self, _: &Lent, _: u32, _: u32, _: &mut Verdict) -> u32 { self.0 }
 }
 
 /// A call that document 01 accepts.

@@ -1,8 +1,9 @@
 //! Which calls stand in the list: every refusal alone and with each later one, 01's own items, borders, drawn ones.
 
+use super::checks::checks;
 use super::generator::{bytes, texels};
 use super::packing::packing;
-use super::record::{record, Record, ARGUMENTS, MODE};
+use super::record::{record, Record, ARGUMENTS, MODE, PREPARED};
 use super::{BEFORE, LONGEST};
 use crate::call::{Call, Outcome};
 use crate::cases::curve::Fourths;
@@ -14,7 +15,7 @@ use crate::plain::{chain_texels, Cut, Document01, Lent, CUBEMAP, NORMAL, SRGB, T
 use crate::random::Random;
 use crate::reading::Reading;
 
-/// Accepted calls of each number.
+/// Accepted calls of each number up to 15; the checks stand with T-07's records.
 const ACCEPTED: [usize; 16] = [
     200, 250, 40, 100, 80, 250, 200, 120, 250, 120, 200, 200, 160, 150, 200, 100,
 ];
@@ -36,18 +37,26 @@ pub fn sample(seed: u64) -> Vec<Record> {
     };
     items(&mut list, TRUNCATING);
     curve(&mut list);
-    for call in 0..OF_CALL.len() {
-        refusals(&mut list, call);
-        for _ in 0..ACCEPTED[call] {
+    for (call, accepted) in ACCEPTED.into_iter().enumerate() {
+        // 15 stands with T-06's records.
+        let numbers: Vec<u32> = OF_CALL[call].iter().copied().filter(|number| *number != 15).collect();
+        refusals(&mut list, call, TRUNCATING, &numbers);
+        for _ in 0..accepted {
             accepted_call(&mut list, call, TRUNCATING);
         }
     }
     cubemaps(&mut list);
     packing(&mut list);
+    checks(&mut list);
     list.records
 }
 
 impl List {
+    /// A drawn seed.
+    pub fn seed(&mut self) -> u32 {
+        self.random.between(1, 2147483646) as u32
+    }
+
     /// Adds a call over buffers of a seed, with what the plain reading answers.
     fn add(&mut self, seed: u32, call: &Call) {
         let mut outcome = Outcome::new();
@@ -57,7 +66,7 @@ impl List {
 
     /// Adds the call of this number with these arguments, its buffers from a drawn seed.
     fn add_arguments(&mut self, call: usize, mut arguments: Arguments) {
-        let seed = self.random.between(1, 2147483646) as u32;
+        let seed = self.seed();
         arguments.refill(|count| texels(seed, count), |count| bytes(seed, count), BEFORE);
         self.add(seed, &arguments.call(call));
     }
@@ -67,6 +76,13 @@ impl List {
         self.add(0, call);
         let last = self.records.last_mut().expect("one was added");
         last[ARGUMENTS..ARGUMENTS + written_out.len()].copy_from_slice(written_out);
+    }
+
+    /// Adds a check of a chain that was prepared as these words say.
+    pub fn add_prepared(&mut self, seed: u32, call: &Call, prepared: [u32; 3]) {
+        self.add(seed, call);
+        let last = self.records.last_mut().expect("one was added");
+        last[PREPARED..PREPARED + 3].copy_from_slice(&prepared);
     }
 
     /// Adds a chain over a level 0 that is written out.
@@ -154,20 +170,19 @@ fn cubemaps(list: &mut List) {
     }
 }
 
-/// Every refusal of a call alone, and with each later one; 15 stands with T-06's records.
-fn refusals(list: &mut List, call: usize) {
-    let numbers: Vec<u32> = OF_CALL[call].iter().copied().filter(|number| *number != 15).collect();
+/// Each of these refusals of a call alone, and with each later one; the mode is this one, where it is not to be unknown.
+pub fn refusals(list: &mut List, call: usize, mode: u32, numbers: &[u32]) {
     for (i, first) in numbers.iter().enumerate() {
         for _ in 0..ALONE {
-            refused_call(list, call, TRUNCATING, &[*first]);
+            refused_call(list, call, mode, &[*first]);
         }
         for second in &numbers[i + 1..] {
-            refused_call(list, call, TRUNCATING, &[*first, *second]);
+            refused_call(list, call, mode, &[*first, *second]);
         }
     }
 }
 
-/// A call for which these refusals' conditions hold; a chain's mode is this one, where it is not to be unknown.
+/// A call for which these refusals' conditions hold; the mode is this one, where it is not to be unknown.
 pub fn refused_call(list: &mut List, call: usize, mode: u32, chosen: &[u32]) {
     let mut arguments = accepted(&mut list.random, call, 0);
     arguments.set_mode(mode);
@@ -179,7 +194,7 @@ pub fn refused_call(list: &mut List, call: usize, mode: u32, chosen: &[u32]) {
     list.add_arguments(call, arguments);
 }
 
-/// An accepted call: a small picture, or a long one where its chain is not too long for the list. A chain is of this mode.
+/// An accepted call: a small picture, or a long one where its chain is not too long for the list. The mode is this one.
 pub fn accepted_call(list: &mut List, call: usize, mode: u32) {
     let kind = taken_kind(&mut list.random, call);
     let (width, height) = sides(&mut list.random);

@@ -2,6 +2,7 @@
 //! program without Rust can replay. ANSWERS.md describes the list word by word; this is the same in code.
 
 mod cases;
+mod checks;
 mod generator;
 mod packing;
 mod record;

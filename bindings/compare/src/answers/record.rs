@@ -10,7 +10,17 @@ pub const WORDS: usize = 36;
 /// Where the arguments begin that not every call has.
 pub const ARGUMENTS: usize = 6;
 
-/// Where a chain's mode stands: the last of the arguments, behind the texels that a chain may have there.
+/// Where a check's record says how its chain was prepared, in three words: 0 for levels as the stream has them, else the mode that they
+/// were made by and 1; the place of a texel that was replaced then; what it was replaced by.
+pub const PREPARED: usize = 7;
+
+/// A place that no buffer has: no texel was replaced.
+pub const NO_PLACE: u32 = u32::MAX;
+
+/// A chain that was not prepared.
+const AS_DRAWN: [u32; 3] = [0, NO_PLACE, 0];
+
+/// Where a mode stands: the last of the arguments, behind the texels that a chain may have there.
 pub const MODE: usize = 21;
 
 /// Where the answer begins: the refusal, twelve words, the sum over the buffer that was written.
@@ -68,7 +78,9 @@ fn length_read(call: &Call) -> usize {
         Call::LevelView { picture, .. }
         | Call::BuildRanges { picture, .. }
         | Call::ReplaceTexel { picture, .. }
-        | Call::IrradianceSh4 { picture } => picture.texels.len(),
+        | Call::IrradianceSh4 { picture }
+        | Call::CheckChain { picture, .. }
+        | Call::CheckLevel { picture, .. } => picture.texels.len(),
         _ => call.picture().map_or(0, |picture| picture.lent.texels.len()),
     }
 }
@@ -82,6 +94,8 @@ fn put_arguments(record: &mut Record, call: &Call) {
     match call {
         Call::LevelSizes { level, .. } => words.put(&[*level]),
         Call::GenerateMipmaps { mode, .. } => words.at(MODE).put(&[*mode]),
+        Call::CheckChain { mode, .. } => words.at(PREPARED).put(&AS_DRAWN).at(MODE).put(&[*mode]),
+        Call::CheckLevel { mode, level, .. } => words.put(&[*level]).put(&AS_DRAWN).at(MODE).put(&[*mode]),
         Call::IrradianceSh4 { .. } => &mut words,
         Call::CutCross { faces, .. } => words.put(&[faces.len() as u32]),
         Call::Cut { cut, target, .. } => words.put(&[
@@ -137,7 +151,7 @@ pub fn answer(call: &Call, outcome: &Outcome) -> [u32; WORDS - ANSWER] {
         let wide = |count: usize| (0..count).map(|i| outcome.words[2 * i]).collect::<Vec<u32>>();
         let said = match call {
             Call::LevelSizes { .. } => wide(4),
-            Call::LevelView { .. } => wide(2),
+            Call::LevelView { .. } | Call::CheckChain { .. } | Call::CheckLevel { .. } => wide(2),
             Call::GenerateMipmaps { .. } | Call::CutCross { .. } | Call::Cut { .. } | Call::BuildRanges { .. } => {
                 wide(1)
             }

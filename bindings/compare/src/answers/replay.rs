@@ -1,7 +1,7 @@
 //! From a record back to the call, and the call asked of a unit.
 
 use super::generator::{bytes, texels};
-use super::record::{answer, Record, ANSWER, ARGUMENTS, MODE};
+use super::record::{answer, Record, ANSWER, ARGUMENTS, MODE, PREPARED};
 use super::BEFORE;
 use crate::call::{ask, Call, Outcome};
 use crate::plain::{Cut, Lanes, Lent, Replacement};
@@ -16,8 +16,9 @@ pub struct Buffers {
 }
 
 impl Buffers {
-    /// The buffers of a record. Seed 0: the texels stand in the record, and behind them all are 0.
-    pub fn of(record: &Record) -> Buffers {
+    /// The buffers of a record. Seed 0: the texels stand in the record, and behind them all are 0. A check's chain is prepared by the
+    /// unit that is asked.
+    pub fn of(unit: &dyn Unit, record: &Record) -> Buffers {
         let (call, seed, length) = (record[0], record[1], record[5] as usize);
         let is_cross = call == 2;
         let of_seed = if is_cross || seed == 0 {
@@ -42,7 +43,21 @@ impl Buffers {
             buffers.texels = record[ARGUMENTS..end].to_vec();
             buffers.texels.resize(length, 0);
         }
+        if matches!(call, 16 | 17) {
+            prepare(unit, record, &mut buffers.texels);
+        }
         buffers
+    }
+}
+
+/// Prepares a check's chain: has the unit make its levels, where they are to be made, and replaces a texel, where the buffer has it.
+fn prepare(unit: &dyn Unit, record: &Record, texels: &mut [u32]) {
+    let [made, place, texel] = [0, 1, 2].map(|i| record[PREPARED + i]);
+    if made > 0 {
+        unit.generate_mipmaps(record[2], record[3], record[4], made - 1, texels, &mut 0);
+    }
+    if let Some(replaced) = texels.get_mut(place as usize) {
+        *replaced = texel;
     }
 }
 
@@ -93,13 +108,15 @@ pub fn call_of<'a>(record: &Record, buffers: &'a Buffers) -> Call<'a> {
             ranges: &buffers.ranges,
             replacement: Replacement { x: argument(1), y: argument(2), texel: argument(3) },
         },
-        _ => Call::IrradianceSh4 { picture: lent },
+        15 => Call::IrradianceSh4 { picture: lent },
+        16 => Call::CheckChain { picture: lent, mode: record[MODE] },
+        _ => Call::CheckLevel { picture: lent, mode: record[MODE], level: argument(0) },
     }
 }
 
 /// Whether a unit answers as the record says.
 pub fn agrees(unit: &dyn Unit, record: &Record) -> bool {
-    let buffers = Buffers::of(record);
+    let buffers = Buffers::of(unit, record);
     let call = call_of(record, &buffers);
     let mut outcome = Outcome::new();
     ask(unit, &call, &mut outcome);

@@ -3,6 +3,7 @@
 mod beside;
 mod bilinear;
 mod chains;
+mod checks;
 mod crosses;
 mod cubemaps;
 pub mod curve;
@@ -169,7 +170,7 @@ fn mixed(texels: &[u32]) -> u64 {
 type Part = (&'static str, fn(&mut Run));
 
 /// The parts, in 01's order and then in 02's; packing stands with the chains.
-const PARTS: [Part; 16] = [
+const PARTS: [Part; 17] = [
     ("refusals", refusals::run),
     ("sizes", sizes::run),
     ("chains", chains::run),
@@ -186,6 +187,7 @@ const PARTS: [Part; 16] = [
     ("ranges", ranges::run),
     ("replacements", replacements::run),
     ("irradiance", irradiance::run),
+    ("checks", checks::run),
 ];
 
 /// Runs every part; `say` is told of each before it starts.

@@ -5,7 +5,7 @@ use super::Run;
 use crate::plain::{NEAREST, TRUNCATING};
 
 /// The refusals that each call can give, by its number; a second 3 is that of the second buffer.
-pub const OF_CALL: [&[u32]; 16] = [
+pub const OF_CALL: [&[u32]; 18] = [
     &[1, 2, 6],
     &[1, 2, 3, 15],
     &[10, 3, TARGET],
@@ -22,25 +22,32 @@ pub const OF_CALL: [&[u32]; 16] = [
     &[1, 2, 3, TARGET, 8],
     &[1, 2, 3, TARGET, 8, 14],
     &[1, 2, 3, 8],
+    &[1, 2, 3, 15],
+    &[1, 2, 3, 15, 6],
 ];
 
 /// Each choice of refusals is tried so many times, with other spoiled arguments.
 const TIMES: u64 = 300;
 
-/// The number of the chain call.
+/// The numbers of the chain call and of the checks.
 const CHAIN: usize = 1;
+const CHECKS: [usize; 2] = [16, 17];
 
-/// Runs the part. Chains with an unknown mode and in nearest mode come behind all others, so that the other calls of a seed
-/// stay as they are.
+/// Runs the part. Chains with an unknown mode and in nearest mode come behind all others, and the checks behind these, so that the
+/// other calls of a seed stay as they are.
 pub fn run(run: &mut Run) {
-    for call in 0..OF_CALL.len() {
+    for call in 0..CHECKS[0] {
         every_choice(run, call, TRUNCATING, |chosen| !chosen.contains(&15));
     }
     every_choice(run, CHAIN, TRUNCATING, |chosen| chosen.contains(&15));
     every_choice(run, CHAIN, NEAREST, |chosen| !chosen.contains(&15));
+    for call in CHECKS {
+        every_choice(run, call, TRUNCATING, |_| true);
+        every_choice(run, call, NEAREST, |chosen| !chosen.contains(&15));
+    }
 }
 
-/// Every choice of a call's refusals that is wanted; a chain is of this mode where it is not to be unknown.
+/// Every choice of a call's refusals that is wanted; the mode is this one where it is not to be unknown.
 fn every_choice(run: &mut Run, call: usize, mode: u32, wanted: impl Fn(&[u32]) -> bool) {
     let refusals = OF_CALL[call];
     for choice in 0..1u32 << refusals.len() {

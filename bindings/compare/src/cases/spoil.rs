@@ -6,8 +6,8 @@ use super::values::{coordinates, direction, fractional_level, steps};
 use super::CODES;
 use crate::call::Call;
 use crate::plain::{
-    chain_texels, level_texels, ranges_bytes, top_level, Cut, Document01, Lanes, Lent, Replacement, Rules, CUBEMAP,
-    TRUNCATING,
+    chain_texels, generate_mipmaps, level_texels, ranges_bytes, top_level, Cut, Document01, Lanes, Lent, Replacement,
+    Rules, CUBEMAP, TRUNCATING,
 };
 use crate::random::{ulps, Random};
 use crate::unit::{Directions, Picture};
@@ -261,6 +261,18 @@ impl Arguments {
             let length = shortened(random, ranges_bytes(width, height) as usize, target_short);
             self.ranges = bytes(random, length);
         }
+        if matches!(call, 16 | 17) && random.one_in(2) {
+            self.make_levels(random);
+        }
+    }
+
+    /// Levels that were made, where the chain call takes the arguments; then, in half of the chains, one bit or all of a texel changed.
+    fn make_levels(&mut self, random: &mut Random) {
+        let _ = generate_mipmaps::<Document01>(self.kind, self.width, self.height, self.mode, &mut self.texels);
+        let place = random.below(2 * self.texels.len() as u64) as usize;
+        if let Some(texel) = self.texels.get_mut(place) {
+            *texel ^= random.pick(&[1, u32::MAX]);
+        }
     }
 
     /// Other texels and bytes in the buffers, as many as before; one that is only written holds `before` everywhere.
@@ -303,7 +315,9 @@ impl Arguments {
             12 => Call::SampleCubemapTrilinearRgb { picture, directions, levels: self.fractions },
             13 => Call::BuildRanges { picture: lent, ranges: &self.ranges },
             14 => Call::ReplaceTexel { picture: lent, ranges: &self.ranges, replacement: self.replacement },
-            _ => Call::IrradianceSh4 { picture: lent },
+            15 => Call::IrradianceSh4 { picture: lent },
+            16 => Call::CheckChain { picture: lent, mode: self.mode },
+            _ => Call::CheckLevel { picture: lent, mode: self.mode, level },
         }
     }
 }

@@ -16,11 +16,16 @@ pub fn generate_mipmaps<R: Rules>(kind: u32, width: u32, height: u32, mode: u32,
     });
     first::<R>(&[one, two, three, (15, bad_mode(mode))])?;
     for m in 1..=top_level(width, height) {
-        for face in 0..face_count(kind) {
-            reduce_face::<R>(kind, width, height, mode, m, face, texels);
-        }
+        make_level::<R>(kind, width, height, mode, m, texels);
     }
     Ok(chain_texels::<R>(kind, width, height) as u64)
+}
+
+/// Level m of an accepted chain, made from the one before.
+pub fn make_level<R: Rules>(kind: u32, width: u32, height: u32, mode: u32, m: u32, texels: &mut [u32]) {
+    for face in 0..face_count(kind) {
+        reduce_face::<R>(kind, width, height, mode, m, face, texels);
+    }
 }
 
 /// Each level is made from the one before, by the same mode: one face of level m, row by row.

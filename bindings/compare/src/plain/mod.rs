@@ -6,6 +6,7 @@
 
 mod bilinear;
 mod chain;
+mod check;
 mod cross;
 mod cubemap;
 mod curve;
@@ -31,6 +32,7 @@ mod reference;
 
 pub use bilinear::{sample_bilinear_alpha, sample_bilinear_rgb};
 pub use chain::generate_mipmaps;
+pub use check::{check_chain, check_level, Verdict, FOLLOWS};
 pub use cross::cut_cross;
 pub use cubemap::{has_exact_half, sample_cubemap_rgb, sample_cubemap_trilinear_rgb, trilinear_levels};
 pub use curve::{decoded, decoded_table};

@@ -1,9 +1,11 @@
 //! The sentences that each fix one small rule: document 01's, or that of document 02's request which has changed it. A deliberate
 //! slip replaces one of them.
 
+use super::check::{Verdict, FOLLOWS};
 use super::curve::decoded_table;
 use super::wrap::Wrap;
 use super::NEAREST;
+use std::ops::RangeInclusive;
 
 /// The axis of the largest component.
 #[derive(Clone, Copy, PartialEq, Debug)]
@@ -23,6 +25,9 @@ pub trait Rules {
 
     /// T-01: wrap code 0, not given, means Repeat.
     const NOT_GIVEN: Wrap = Wrap::Repeat;
+
+    /// T-07: level 0 follows, since no level comes before it.
+    const OF_LEVEL_0: Verdict = FOLLOWS;
 
     /// Level m has sides max(1, side shifted right by m).
     fn level_side(side: u32, m: u32) -> u32 {
@@ -260,6 +265,41 @@ pub trait Rules {
     /// T-04: what a texel adds to a sum, as the source has it: colour * (basis * weight).
     fn added(colour: f32, basis: f32, weight: f32) -> f32 {
         colour * (basis * weight)
+    }
+
+    /// T-07: the verdict on a level is about that level: those that are judged for it.
+    fn judged_for(level: u32) -> RangeInclusive<u32> {
+        level..=level
+    }
+
+    /// T-07: given its predecessor, which is taken as it is found: the levels that are made again to judge level m.
+    fn made_again_for(m: u32) -> RangeInclusive<u32> {
+        m..=m
+    }
+
+    /// T-07: by the mode that is given.
+    fn mode_of_check(mode: u32) -> u32 {
+        mode
+    }
+
+    /// T-07: every texel of a level is judged, up to the chain's last: where those of a level end.
+    fn judged_end(end_of_level: usize, _end_of_chain: usize) -> usize {
+        end_of_level
+    }
+
+    /// T-07: a texel follows exactly if it is the one that 01's rules make.
+    fn is_wrong(found: u32, made: u32) -> bool {
+        found != made
+    }
+
+    /// T-07: the first wrong texel is the one whose place is smallest.
+    fn first_wrong(places: &[usize]) -> Option<usize> {
+        places.iter().copied().min()
+    }
+
+    /// T-07: a place is counted in layout order, from the chain's first texel on.
+    fn place_of(place: usize, _start_of_level: usize) -> usize {
+        place
     }
 }
 
