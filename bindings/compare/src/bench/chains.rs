@@ -35,21 +35,24 @@ pub fn nearest<'a>(unit: &'a dyn Unit, random: &mut Random, name: &str, kind: u3
     }
 }
 
+/// A buffer that is timed by turns.
+pub type Shared = Rc<RefCell<Vec<u32>>>;
+
 /// Drawn texels of a square picture's level 0.
-fn drawn(random: &mut Random, kind: u32, side: u32) -> Vec<u32> {
+pub fn drawn(random: &mut Random, kind: u32, side: u32) -> Vec<u32> {
     let texels = level_texels::<Document01>(kind, side, side, 0);
     (0..texels).map(|_| random.next() as u32).collect()
 }
 
 /// A buffer for the chain of a level 0, which chains of either mode leave as it is.
-fn lent(kind: u32, side: u32, level_0: &[u32]) -> Rc<RefCell<Vec<u32>>> {
+pub fn lent(kind: u32, side: u32, level_0: &[u32]) -> Shared {
     let mut texels = level_0.to_vec();
     texels.resize(chain_texels::<Document01>(kind, side, side) as usize, 0);
     Rc::new(RefCell::new(texels))
 }
 
 /// The unit's chain, over a buffer made before.
-fn unit_chain<'a>(unit: &'a dyn Unit, kind: u32, side: u32, mode: u32, texels: &Rc<RefCell<Vec<u32>>>) -> Timed<'a> {
+pub fn unit_chain<'a>(unit: &'a dyn Unit, kind: u32, side: u32, mode: u32, texels: &Shared) -> Timed<'a> {
     let texels = Rc::clone(texels);
     Box::new(move || {
         let (mut texels, mut written) = (texels.borrow_mut(), 0);

@@ -2,6 +2,7 @@
 
 pub mod arguments;
 pub mod chains;
+pub mod checks;
 pub mod irradiance;
 pub mod lookups;
 pub mod packing;

@@ -6,7 +6,7 @@ use crate::random::Random;
 use crate::unit::Unit;
 
 /// Kinds with their sides and goals: so many nanoseconds a texel, or no more than truncating takes.
-const ROWS: [(&str, u32, u32, &str); 5] = [
+pub const ROWS: [(&str, u32, u32, &str); 5] = [
     ("Linear, 2048 square", 4, 2048, "1.00 ns"),
     ("Cubemap, 1024 square x 6", 3, 1024, "1.00 ns"),
     ("Normal, 2048 square", 1, 2048, "2.50 ns"),

@@ -1,7 +1,7 @@
 //! `bench [ROUNDS]`: unit and source side by side in one process, turn by turn, the best of several rounds, as ratios.
 
 use swathecold_compare::bench::arguments::{Scene, RANDOM_PLACES, WARM};
-use swathecold_compare::bench::{chains, irradiance, lookups, packing, ranges, table, unit, Best, Row};
+use swathecold_compare::bench::{chains, checks, irradiance, lookups, packing, ranges, table, unit, Best, Row};
 use swathecold_compare::random::Random;
 use swathecold_compare::unit::Unit;
 
@@ -35,6 +35,7 @@ fn main() {
     println!("{}", of_ranges(&unit, name, &mut random, rounds));
     println!("{}", irradiance::table(&unit, name, &mut random, rounds));
     println!("{}", packing::table(&unit, name, &mut random, rounds));
+    println!("{}", checks::table(&unit, name, &mut random, rounds));
 }
 
 /// Chains of each kind, the cut and the cross.
