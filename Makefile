@@ -64,7 +64,7 @@ bench: real-time archive
 real-time:
 	@$(MACHINE) && can bench "$${runner:+a time taken in an emulator says nothing}"
 
-# Instructions a call of each lookup, and a texel of each kind's chain: counted, not timed.
+# Instructions a call of each lookup, and a texel of each kind's chain and of its check: counted, not timed.
 instructions: archive
 	@tools/instructions
 

@@ -1,6 +1,7 @@
 /* instructions CALL CODE COUNT: makes so many calls of a lookup with a wrap code, each with drawn arguments of its own that the unit takes.
  * They are the same on every run. tools/instructions counts what the calls execute.
- * instructions generate_mipmaps KIND COUNT WIDTH HEIGHT MODE: so many chains of drawn texels. CALL may be nothing: arguments are drawn, and no call
+ * instructions generate_mipmaps KIND COUNT WIDTH HEIGHT MODE: so many chains of drawn texels. check_chain in its place: the chain is made
+ * beforehand, and so many times checked. CALL may be nothing: arguments are drawn, with sides the chain is made as for a check, and no call
  * is made. */
 #include <stdint.h>
 #include <stdio.h>
@@ -60,7 +61,7 @@ static struct arguments drawn(void) {
     return a;
 }
 
-enum { NOTHING, MIP_LEVEL, SAMPLE4_RGB, SAMPLE4_ALPHA, BILINEAR_RGB, BILINEAR_ALPHA, CUBE_UV, CUBE_RGB, TRILINEAR_RGB, CHAIN, CALLS };
+enum { NOTHING, MIP_LEVEL, SAMPLE4_RGB, SAMPLE4_ALPHA, BILINEAR_RGB, BILINEAR_ALPHA, CUBE_UV, CUBE_RGB, TRILINEAR_RGB, CHAIN, CHECK, CALLS };
 static const char *const names[CALLS] = {
     [NOTHING] = "nothing",
     [MIP_LEVEL] = "compute_mip_level",
@@ -72,6 +73,7 @@ static const char *const names[CALLS] = {
     [CUBE_RGB] = "sample_cubemap_rgb",
     [TRILINEAR_RGB] = "sample_cubemap_trilinear_rgb",
     [CHAIN] = "generate_mipmaps",
+    [CHECK] = "check_chain",
 };
 
 /* Which call has the name; CALLS where none has. */
@@ -81,11 +83,29 @@ static int which(const char *name) {
     return at;
 }
 
+/* Whether so many words go with the call: a chain has its sides and its mode. */
+static int has_words(int at, int count) {
+    if (at == NOTHING) return count == 4 || count == 7;
+    return at != CALLS && count == (at < CHAIN ? 4 : 7);
+}
+
+static uint32_t made(uint32_t kind, struct chain of) {
+    uint64_t written;
+    return swathecold_generate_mipmaps(kind, of.width, of.height, of.mode, texels, TEXELS, &written);
+}
+
+/* A check that stops before the chain's end is not the one that is counted. */
+static uint32_t checked(uint32_t kind, struct chain of) {
+    uint64_t verdict[2];
+    uint32_t refused = swathecold_check_chain(kind, of.width, of.height, of.mode, texels, TEXELS, verdict);
+    if (!refused && verdict[0] != 1) abort();
+    return refused;
+}
+
 /* The call's refusal number, or 0. */
 static uint32_t call(int at, uint32_t code, struct chain of, const struct arguments *a) {
     static const uint32_t no_faces[4];
     static uint32_t numbers[4];
-    static uint64_t written;
     static float lanes[12];
     switch (at) {
     case NOTHING: return 0;
@@ -97,27 +117,26 @@ static uint32_t call(int at, uint32_t code, struct chain of, const struct argume
     case CUBE_UV: return swathecold_cubemap_uv_from_normal(a->x, a->y, a->z, lanes, numbers);
     case CUBE_RGB: return swathecold_sample_cubemap_rgb(CUBE, a->x, a->y, a->z, a->levels, lanes);
     case TRILINEAR_RGB: return swathecold_sample_cubemap_trilinear_rgb(CUBE, a->x, a->y, a->z, a->fractions, lanes);
-    default: return swathecold_generate_mipmaps(code, of.width, of.height, of.mode, texels, TEXELS, &written);
+    case CHAIN: return made(code, of);
+    default: return checked(code, of);
     }
 }
 
 int main(int count, char **words) {
     int at = count > 3 ? which(words[1]) : CALLS;
-    if (at == CALLS || count != (at == CHAIN ? 7 : 4)) {
-        fputs("instructions: give CALL CODE COUNT, or generate_mipmaps KIND COUNT WIDTH HEIGHT MODE\n", stderr);
+    if (!has_words(at, count)) {
+        fputs("instructions: give CALL CODE COUNT, or generate_mipmaps or check_chain KIND COUNT WIDTH HEIGHT MODE\n", stderr);
         return 1;
     }
     uint32_t code = (uint32_t)atol(words[2]);
     struct chain of = {0, 0, 0};
-    if (at == CHAIN) of = (struct chain){(uint32_t)atol(words[4]), (uint32_t)atol(words[5]), (uint32_t)atol(words[6])};
+    if (count == 7) of = (struct chain){(uint32_t)atol(words[4]), (uint32_t)atol(words[5]), (uint32_t)atol(words[6])};
     for (int i = 0; i < TEXELS; i++) texels[i] = (uint32_t)next();
-    for (long left = atol(words[3]); left > 0; left--) {
+    uint32_t refused = count == 7 && at != CHAIN ? made(code, of) : 0;
+    for (long left = atol(words[3]); left > 0 && !refused; left--) {
         struct arguments a = drawn();
-        uint32_t refused = call(at, code, of, &a);
-        if (refused) {
-            fprintf(stderr, "instructions: %s: refused %u\n", words[1], refused);
-            return 1;
-        }
+        refused = call(at, code, of, &a);
     }
-    return 0;
+    if (refused) fprintf(stderr, "instructions: %s: refused %u\n", words[1], refused);
+    return refused != 0;
 }
