@@ -34,7 +34,7 @@ uint32_t swathecold_level_sizes(uint32_t kind, uint32_t width, uint32_t height, 
 uint32_t swathecold_generate_mipmaps(uint32_t kind, uint32_t width, uint32_t height, uint32_t mode,
                                      uint32_t *texels, size_t texels_len, uint64_t *written);
 
-/* Whether every level follows from the one before, whoever made the chain: each of its texels is what four texels of that level, as
+/* Whether every level follows from the one before, whoever made the chain: each texel is what four texels of the level before it, as
  * they stand there, reduce to by the mode. verdict[0]: 1 where all follow, else 0; verdict[1]: the first wrong texel's index in texels,
  * and 0 where none is wrong. What swathecold_generate_mipmaps filled by the same mode follows. Entries past the chain are not looked at. */
 uint32_t swathecold_check_chain(uint32_t kind, uint32_t width, uint32_t height, uint32_t mode,
