@@ -46,19 +46,15 @@ module _ (reduce : ℕ → ℕ → ℕ → ℕ → ℕ) where
         g (r1 + 2 * x) r1 (2 * k + 1) (2 * (x + k) + 1) (omega arith) (omega arith),
       )
 
-  -- m texels made in the part o
-  pub part-at : (r0 r1 m : ℕ) (s buf o : List ℕ)
-      → o ≡ over 0 buf m (pairOf reduce (take (length s - r0) (drop r0 s)) (take (length s - r1) (drop r1 s)))
-      → (k : ℕ) → k < m → getD o k 0 ≡ pairOf reduce (drop r0 s) (drop r1 s) k
-  part-at r0 r1 m s buf o eo k lt = rw (eo, part-to-end s r0, part-to-end s r1) (front-at buf m (pairOf reduce (drop r0 s) (drop r1 s)) k lt)
-
-  -- and put behind
+  -- m texels made in the part o, and put behind
   pub part-is : (to r0 r1 m : ℕ) (s buf o t : List ℕ)
       → o ≡ over 0 buf m (pairOf reduce (take (length s - r0) (drop r0 s)) (take (length s - r1) (drop r1 s)))
       → t ≡ over to s m (λ k. getD o k 0)
       → t ≡ over to s m (pairOf reduce (drop r0 s) (drop r1 s))
   part-is to r0 r1 m s buf o t eo et =
-      et ∙ over-ext to s m (λ k. getD o k 0) (pairOf reduce (drop r0 s) (drop r1 s)) (part-at r0 r1 m s buf o eo)
+      et
+      ∙ over-ext to s m (λ k. getD o k 0) (pairOf reduce (drop r0 s) (drop r1 s))
+      (λ k lt. rw (eo, part-to-end s r0, part-to-end s r1) (front-at buf m (pairOf reduce (drop r0 s) (drop r1 s)) k lt))
 
   -- a turn of the loop over a row: a part of m texels
   pub row-turn : (to r0 r1 n x m : ℕ) (old s t : List ℕ)

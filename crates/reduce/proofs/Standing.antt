@@ -4,16 +4,17 @@
 use mathlib.Core.Path.{_≡_, refl, sym, ap, _∙_}
 use mathlib.Core.List.{List}
 use Prim.Native.Nat.{ℕ, _+_, _-_, _*_, _/_, _≤_, _<_}
-use native.Mathlib.Nat.{add-zero}
+use native.Mathlib.Nat.{add-zero, zero-add}
 use native.Mathlib.Omega.{arith}
 use lib.ListN.{length, getD, take, drop}
-use lib.Seq.{set-getD}
+use lib.Seq.{set-getD, getD-drop}
+use borrow.Rule.Slice.PartAt.{part-to-end}
 use Rattle.rules.specs.Sizes.{half}
 use Rattle.kinds.specs.Runs.{over, pairOf}
-use Rattle.kinds.proofs.Runs.{Over, over-is, over-first, over-set, over-ext}
+use Rattle.kinds.proofs.Runs.{length-over, over-before, over-within, over-ext, Over, over-is, over-first, over-set}
 use Rattle.reduce.specs.Rows.{heldOf}
 use Rattle.reduce.specs.Right.{Right}
-use Rattle.reduce.proofs.Rows.{part-at, pair-shift, row-turn, narrow-at, wide-at}
+use Rattle.reduce.proofs.Rows.{pair-shift, row-turn, narrow-at, wide-at}
 
 module _ {at : ℕ} {s : List ℕ} {f : ℕ → ℕ} where
   -- one place more
@@ -42,11 +43,41 @@ module _ {at : ℕ} {s : List ℕ} {f : ℕ → ℕ} where
       }
 
 module _ (reduce : ℕ → ℕ → ℕ → ℕ → ℕ) where
-  -- a part, against what was made in o
-  pub part-right : {at m r : ℕ} (r0 r1 : ℕ) (s buf o : List ℕ)
-      → o ≡ over 0 buf m (pairOf reduce (take (length s - r0) (drop r0 s)) (take (length s - r1) (drop r1 s)))
-      → Right at s m (λ k. getD o k 0) r → Right at s m (pairOf reduce (drop r0 s) (drop r1 s)) r
-  part-right r0 r1 s buf o eo t = right-ext (pairOf reduce (drop r0 s) (drop r1 s)) (part-at reduce r0 r1 _ s buf o eo) t
+  -- a part, against what was made of a copy of its sources: `found` holds the copies, and `made` them and the part
+  pub part-right : {at m r : ℕ} (r0 r1 : ℕ) (s rows first found made : List ℕ) → m ≤ 64 → 320 ≤ length rows
+      → first ≡ over 0 rows (2 * m) (λ i. getD (take (length s - r0) (drop r0 s)) i 0)
+      → found ≡ over 128 first (2 * m) (λ i. getD (take (length s - r1) (drop r1 s)) i 0)
+      → made ≡ over 256 found m (pairOf reduce (drop 0 found) (drop 128 found))
+      → Right at s m (λ i. getD (take (length made - 256) (drop 256 made)) i 0) r → Right at s m (pairOf reduce (drop r0 s) (drop r1 s)) r
+  unfolding pairOf
+  part-right {m = m} r0 r1 s rows first found made few room e0 e1 em t = right-ext (pairOf reduce (drop r0 s) (drop r1 s)) same t
+    where
+      long : length first ≡ length rows
+      long = ap length e0 ∙ length-over 0 rows (2 * m) _ (omega arith)
+
+      upper : (i : ℕ) → i < 2 * m → getD found i 0 ≡ getD (drop r0 s) i 0
+      upper i lt =
+          ap (λ (l : List ℕ). getD l i 0) e1
+          ∙ over-before 128 first (2 * m) _ i (omega (arith, long)) (omega arith)
+          ∙ ap (λ (l : List ℕ). getD l i 0) e0
+          ∙ ap (λ (k : ℕ). getD (over 0 rows (2 * m) (λ i. getD (take (length s - r0) (drop r0 s)) i 0)) k 0) (sym (zero-add i))
+          ∙ over-within 0 rows (2 * m) _ i (omega arith) lt
+          ∙ ap (λ (l : List ℕ). getD l i 0) (part-to-end s r0)
+
+      lower : (i : ℕ) → i < 2 * m → getD (drop 128 found) i 0 ≡ getD (drop r1 s) i 0
+      lower i lt =
+          getD-drop 128 found i 0
+          ∙ ap (λ (l : List ℕ). getD l (128 + i) 0) e1
+          ∙ over-within 128 first (2 * m) _ i (omega (arith, long)) lt
+          ∙ ap (λ (l : List ℕ). getD l i 0) (part-to-end s r1)
+
+      same : (k : ℕ) → k < m → getD (take (length made - 256) (drop 256 made)) k 0 ≡ pairOf reduce (drop r0 s) (drop r1 s) k
+      same k lt =
+          ap (λ (l : List ℕ). getD l k 0) (part-to-end made 256)
+          ∙ getD-drop 256 made k 0
+          ∙ ap (λ (l : List ℕ). getD l (256 + k) 0) em
+          ∙ over-within 256 found m _ k (omega (arith, long, ap length e1 ∙ length-over 128 first (2 * m) _ (omega (arith, long)))) lt
+          ∙ rw (upper (2 * k) (omega arith), upper (2 * k + 1) (omega arith), lower (2 * k) (omega arith), lower (2 * k + 1) (omega arith))
 
   -- a turn of the loop over a row: a part of m places
   module _ (at r0 r1 n x m r : ℕ) (s : List ℕ) (o : Over at s x (pairOf reduce (drop r0 s) (drop r1 s)) s)

@@ -22,10 +22,20 @@ pub fn check_next(kind: u32, packing: Packing, faces: usize, w: usize, h: usize,
     let h2 = halved(h);
     let n = size(faces, w, h);
     let rows = faces * h2;
+    let mut made = [0u32; 320];
     let mut y = 0;
     while y < rows {
         let r = rows_above(y, w, h, h2);
-        let right = check_row(kind, packing, w, r.first, r.second, n + y * w2, s);
+        let right = check_row(
+            kind,
+            packing,
+            w,
+            r.first,
+            r.second,
+            n + y * w2,
+            s,
+            &mut made,
+        );
         if right < w2 {
             return y * w2 + right;
         }

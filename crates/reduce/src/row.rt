@@ -29,7 +29,7 @@ pub fn put(n: usize, to: usize, o: &[u32], s: &mut [u32])
 
 // The first of n texels of a row, 64 at most, and how many: made in a part from the pairs at r0 and r1, then put at `to`. For a kind
 // that needs no table.
-fn part(
+pub fn part(
     kind: u32,
     packing: Packing,
     n: usize,
@@ -52,7 +52,14 @@ fn part(
 
 // The same for SRGB, 128 at most. Its tables stand in this function's frame, which no other kind enters: called from two places, it
 // is not compiled into its callers.
-fn srgb_part(packing: Packing, n: usize, r0: usize, r1: usize, to: usize, s: &mut [u32]) -> usize
+pub fn srgb_part(
+    packing: Packing,
+    n: usize,
+    r0: usize,
+    r1: usize,
+    to: usize,
+    s: &mut [u32],
+) -> usize
     requires { ⌜ (r0 + 2 * n ≤ to) × (r1 + 2 * n ≤ to) × (to + n ≤ length (now s)) ⌝ }
     ensures count { λ m. ⌜ m ≡ min n 128 ⌝ }
     ensures { λ m. ⌜ now (s .exit) ≡ over to (now (s .entry)) m (pairOf (srgbOf packing) (drop r0 (now (s .entry))) (drop r1 (now (s .entry)))) ⌝ }
@@ -90,16 +97,6 @@ fn srgb_texel(packing: Packing, p: u32, q: u32) -> u32
     rows[4]
 }
 
-// The same by any kind.
-pub fn texel_of_one(kind: u32, packing: Packing, p: u32, q: u32) -> u32
-    ensures { λ v. ⌜ v ≡ reduceOf kind packing p p q q ⌝ }
-{
-    match kind {
-        0 => srgb_texel(packing, p, q),
-        _ => kinds::reduce_without_table(kind, packing, p, p, q, q),
-    }
-}
-
 // The one texel of a row whose sources are one wide.
 fn narrow(kind: u32, packing: Packing, r0: usize, r1: usize, to: usize, s: &mut [u32])
     requires { ⌜ (r0 < to) × (r1 < to) × (to < length (now s)) ⌝ }
@@ -107,7 +104,11 @@ fn narrow(kind: u32, packing: Packing, r0: usize, r1: usize, to: usize, s: &mut 
 {
     let p = s[r0];
     let q = s[r1];
-    s[to] = texel_of_one(kind, packing, p, q);
+    let v = match kind {
+        0 => srgb_texel(packing, p, q),
+        _ => kinds::reduce_without_table(kind, packing, p, p, q, q),
+    };
+    s[to] = v;
 }
 
 // The row at `to`, from the rows w wide at r0 and r1.

@@ -1,9 +1,11 @@
 -- `reduce::check_level::check_next` meets its contract. The invariant: y rows of all faces stand there. The measure is the rows left.
 -- Assumes nothing.
+use mathlib.Core.Path.{_≡_}
 use Prim.Native.Nat.{_*_, _-_}
 use native.Mathlib.Nat.{mul-le-mul}
 use native.Mathlib.Omega.{arith}
 use borrow.Author.Needs.{needs}
+use lib.ListN.{length}
 use Rattle.rules.specs.Reducing.{reduceOf}
 use Rattle.reduce.proofs.Bounds.{half-most}
 use Rattle.reduce.proofs.Levels.{Rows, Places, rows-first, rows-places}
@@ -12,10 +14,10 @@ use Rattle.reduce.proofs.check_level.check_next.Statement.{statement}
 use Rattle.reduce.proofs.check_level.check_next.Tie as tie
 
 abbrev Inv-loop : tie.InvT-loop
-Inv-loop kind packing faces w h s w2 h2 n rows y₀ y = Rows (reduceOf kind packing) faces w h w2 h2 n s s y
+Inv-loop kind packing faces w h s w2 h2 n rows made₀ y₀ made y = (320 ≡ length made) × Rows (reduceOf kind packing) faces w h w2 h2 n s s y
 
 abbrev μ-loop : tie.MeasureT-loop
-μ-loop kind packing faces w h s w2 h2 n rows y₀ y = faces * h2 - y
+μ-loop kind packing faces w h s w2 h2 n rows made₀ y₀ made y = faces * h2 - y
 
 halved-requires : tie.Need-halved-requires Inv-loop μ-loop
 halved-requires c κs = search needs
@@ -34,17 +36,17 @@ mul-rows c =
 loop-holds : tie.Need-loop-holds Inv-loop μ-loop
 loop-holds c =
     let start = c .before .before .before .before in
-    rows-first _ _ _ _ _ _ _ _ (start .pre .0) (c .before .before .halved .ensures) (c .before .halved2 .ensures) (c .size .ensures) (start .pre .1)
+    (search needs, rows-first _ _ _ _ _ _ _ _ (start .pre .0) (c .before .before .halved .ensures) (c .before .halved2 .ensures) (c .size .ensures) (start .pre .1))
 
 rows-above-requires : tie.Need-rows-above-requires Inv-loop μ-loop
-rows-above-requires c κs = omega (arith, c .before .loop .inv, rows-places (c .before .loop .inv) (c .loop-test .taken))
+rows-above-requires c κs = omega (arith, c .before .loop .inv .1, rows-places (c .before .loop .inv .1) (c .loop-test .taken))
 
 -- where the row is read and where it stands
 places : (c : tie.After-rows-above Inv-loop μ-loop)
     → let size = c .before .before .before in
     let start = size .before .before .before .before .args in
     Places (start .w) (start .h) (size .before .before .halved .result) (size .before .halved2 .result) (size .size .result) (c .before .before .loop .y) (start .s .now)
-places c = rows-places (c .before .before .loop .inv) (c .before .loop-test .taken)
+places c = rows-places (c .before .before .loop .inv .1) (c .before .loop-test .taken)
 
 mul-check-row : tie.Need-mul-check-row Inv-loop μ-loop
 mul-check-row c = omega (arith, places c)
@@ -52,36 +54,39 @@ mul-check-row c = omega (arith, places c)
 add-check-row : tie.Need-add-check-row Inv-loop μ-loop
 add-check-row c = omega (arith, places c)
 
+slice-aggregate-check-row : tie.Need-slice-aggregate-check-row Inv-loop μ-loop
+slice-aggregate-check-row c = search needs
+
 check-row-requires : tie.Need-check-row-requires Inv-loop μ-loop
-check-row-requires c κs = omega (arith, c .rows-above .ensures, places c)
+check-row-requires c κs = omega (arith, c .before .rows-above .ensures, places (c .before))
 
 mul-result : tie.Need-mul-result Inv-loop μ-loop
-mul-result c = omega (arith, places (c .before .before))
+mul-result c = omega (arith, places (c .before .before .before .before))
 
 add-result : tie.Need-add-result Inv-loop μ-loop
-add-result c = omega (arith, places (c .before .before), c .before .check-row .ensures)
+add-result c = omega (arith, places (c .before .before .before .before), c .before .before .check-row .ensures)
 
 returns : tie.Need-returns Inv-loop μ-loop
 returns c =
-    let above = c .before .before in
-    row-stop (above .before .before .loop .inv) (above .before .loop-test .taken) _ (above .rows-above .ensures) (c .before .check-row .ensures) (c .if1 .taken)
+    let above = c .before .before .before .before in
+    row-stop (above .before .before .loop .inv .1) (above .before .loop-test .taken) _ (above .rows-above .ensures) (c .before .before .check-row .ensures) (c .if1 .taken)
 
 add-y : tie.Need-add-y Inv-loop μ-loop
-add-y c = omega (arith, places (c .before .before))
+add-y c = omega (arith, places (c .before .before .before .before))
 
 loop-less : tie.Need-loop-less Inv-loop μ-loop
 loop-less c = omega arith
 
 loop-again : tie.Need-loop-again Inv-loop μ-loop
 loop-again c =
-    let above = c .before .before in
-    row-more (above .before .before .loop .inv) (above .before .loop-test .taken) _ (above .rows-above .ensures) (c .before .check-row .ensures) (c .if1 .left)
+    let above = c .before .before .before .before in
+    (omega arith, row-more (above .before .before .loop .inv .1) (above .before .loop-test .taken) _ (above .rows-above .ensures) (c .before .before .check-row .ensures) (c .if1 .left))
 
 mul-result-2 : tie.Need-mul-result-2 Inv-loop μ-loop
-mul-result-2 c = omega (arith, c .before .loop .inv .room)
+mul-result-2 c = omega (arith, c .before .loop .inv .1 .room)
 
 returns-2 : tie.Need-returns-2 Inv-loop μ-loop
-returns-2 c = rows-right (c .before .loop .inv) (c .loop-test .left)
+returns-2 c = rows-right (c .before .loop .inv .1) (c .loop-test .left)
 
 pub check-next-spec : {M : Type 1} → statement M
 check-next-spec =
@@ -97,6 +102,7 @@ check-next-spec =
     rows-above-requires
     mul-check-row
     add-check-row
+    slice-aggregate-check-row
     check-row-requires
     mul-result
     add-result

@@ -1,4 +1,5 @@
--- `reduce::check_row::check_part` meets its contract. Assumes nothing.
+-- `reduce::check_row::check_part` meets its contract: what is made of copies is made of the texels themselves. Assumes nothing.
+use native.Mathlib.Omega.{arith}
 use borrow.Author.Needs.{needs}
 use Rattle.rules.specs.Reducing.{reduceOf}
 use Rattle.reduce.proofs.Standing.{part-right}
@@ -8,64 +9,91 @@ use Rattle.reduce.proofs.check_row.check_part.Tie as tie
 least-requires : tie.Need-least-requires
 least-requires c κs = search needs
 
-mul-row-without-table : tie.Need-mul-row-without-table
-mul-row-without-table c = search needs
+mul-put : tie.Need-mul-put
+mul-put c = search needs
 
-sub-row-without-table : tie.Need-sub-row-without-table
-sub-row-without-table c = search needs
+mul-put-2 : tie.Need-mul-put-2
+mul-put-2 c = search needs
 
-part-row-without-table-start : tie.Need-part-row-without-table-start
-part-row-without-table-start c = search needs
+sub-put : tie.Need-sub-put
+sub-put c = search needs
 
-part-row-without-table-end : tie.Need-part-row-without-table-end
-part-row-without-table-end c = search needs
+part-put-start : tie.Need-part-put-start
+part-put-start c = search needs
 
-mul-row-without-table-2 : tie.Need-mul-row-without-table-2
-mul-row-without-table-2 c = search needs
+part-put-end : tie.Need-part-put-end
+part-put-end c = search needs
 
-sub-row-without-table-2 : tie.Need-sub-row-without-table-2
-sub-row-without-table-2 c = search needs
+put-requires : tie.Need-put-requires
+put-requires c κs = search needs
 
-part-row-without-table-start-2 : tie.Need-part-row-without-table-start-2
-part-row-without-table-start-2 c = search needs
+mul-put-3 : tie.Need-mul-put-3
+mul-put-3 c = search needs
 
-part-row-without-table-end-2 : tie.Need-part-row-without-table-end-2
-part-row-without-table-end-2 c = search needs
+mul-put-4 : tie.Need-mul-put-4
+mul-put-4 c = search needs
 
-slice-aggregate-row-without-table : tie.Need-slice-aggregate-row-without-table
-slice-aggregate-row-without-table c = search needs
+sub-put-2 : tie.Need-sub-put-2
+sub-put-2 c = search needs
 
-row-without-table-requires : tie.Need-row-without-table-requires
-row-without-table-requires c κs = search needs
+part-put-start-2 : tie.Need-part-put-start-2
+part-put-start-2 c = search needs
 
-slice-aggregate-alike : tie.Need-slice-aggregate-alike
-slice-aggregate-alike c = search needs
+part-put-end-2 : tie.Need-part-put-end-2
+part-put-end-2 c = search needs
+
+put-requires-2 : tie.Need-put-requires-2
+put-requires-2 c κs = search needs
+
+make-part-requires : tie.Need-make-part-requires
+make-part-requires c κs = search needs
+
+sub-alike : tie.Need-sub-alike
+sub-alike c = search needs
+
+part-alike-start : tie.Need-part-alike-start
+part-alike-start c = search needs
+
+part-alike-end : tie.Need-part-alike-end
+part-alike-end c = search needs
 
 alike-requires : tie.Need-alike-requires
 alike-requires c κs = search needs
 
+same-length : tie.Need-same-length
+same-length c = search needs
+
 returns : tie.Need-returns
 returns c =
-    let row = c .before .before .before in
-    let least = row .before .before .before .before in
-    let start = least .before .before in
-    rw (← least .least .ensures) (part-right (reduceOf (start .args .kind) (start .args .packing)) (start .args .r0) (start .args .r1) (start .args .s .now) _ _ (row .row-without-table .ensures) (c .alike .ensures))
+    let made = c .before .before .before .before .before in
+    let second = made .before .before .before .before in
+    let first = second .before .before .before .before .before in
+    let least = first .before .before .before in
+    let a = least .before .before .before .args in
+    rw (← least .least .ensures)
+    (part-right (reduceOf (a .kind) (a .packing)) (a .r0) (a .r1) (a .s .now) (a .rows .now) _ _ _ (let e = least .least .ensures in omega arith) (omega arith) (first .put .ensures) (second .put2 .ensures) (made .make-part .ensures) (c .alike .ensures))
 
 pub check-part-spec : {M : Type 1} → statement M
 check-part-spec =
     tie.close
     (tie.spec
     least-requires
-    mul-row-without-table
-    sub-row-without-table
-    part-row-without-table-start
-    part-row-without-table-end
-    mul-row-without-table-2
-    sub-row-without-table-2
-    part-row-without-table-start-2
-    part-row-without-table-end-2
-    slice-aggregate-row-without-table
-    row-without-table-requires
-    slice-aggregate-alike
+    mul-put
+    mul-put-2
+    sub-put
+    part-put-start
+    part-put-end
+    put-requires
+    mul-put-3
+    mul-put-4
+    sub-put-2
+    part-put-start-2
+    part-put-end-2
+    put-requires-2
+    make-part-requires
+    sub-alike
+    part-alike-start
+    part-alike-end
     alike-requires
+    same-length
     returns)

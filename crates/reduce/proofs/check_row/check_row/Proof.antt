@@ -11,16 +11,20 @@ check-narrow-requires c κs = search needs
 
 returns : tie.Need-returns
 returns c =
-    let a = c .before .before .before .args in
+    let a = c .before .before .before .before .args in
     one-right (reduceOf (a .kind) (a .packing)) (a .r0) (a .r1) (a .s .now) (omega arith) (omega arith) (c .check-narrow .ensures)
 
 check-whole-requires : tie.Need-check-whole-requires
 check-whole-requires c κs = search needs
 
+same-length : tie.Need-same-length
+same-length c = search needs
+
 returns-2 : tie.Need-returns-2
 returns-2 c =
-    let a = c .before .before .before .args in
-    wide-right (reduceOf (a .kind) (a .packing)) (a .r0) (a .r1) (a .s .now) (omega arith) (c .check-whole .ensures)
+    let a = c .before .before .before .before .before .before .before .args in
+    wide-right (reduceOf (a .kind) (a .packing)) (a .r0) (a .r1) (a .s .now) (omega arith) (c .before .before .check-whole .ensures)
 
 pub check-row-spec : {M : Type 1} → statement M
-check-row-spec = tie.close (tie.spec check-narrow-requires returns check-whole-requires returns-2)
+check-row-spec =
+    tie.close (tie.spec check-narrow-requires returns check-whole-requires same-length returns-2)

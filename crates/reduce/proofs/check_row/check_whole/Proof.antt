@@ -1,28 +1,25 @@
 -- `reduce::check_row::check_whole` meets its contract. The invariant: the first x texels of the row stand there. The measure is what is
 -- left. Assumes nothing.
-use mathlib.Core.Path.{_≡_}
-use mathlib.Core.Logic.{⊎-elim}
+use mathlib.Core.Path.{_≡_, refl, _∙_}
 use Prim.Native.Nat.{_+_, _-_, _≤_, _<_, min}
-use native.Mathlib.Nat.{pos-of-ne-zero}
 use native.Mathlib.Omega.{arith}
-use lib.ListN.{drop}
+use lib.ListN.{length, drop}
 use Rattle.rules.specs.Reducing.{reduceOf}
-use Rattle.kinds.proofs.Codes.{of-srgb}
-use Rattle.kinds.specs.Runs.{pairOf}
 use Rattle.kinds.proofs.Runs.{Over, over-first}
+use Rattle.kinds.specs.Runs.{pairOf}
 use Rattle.reduce.specs.Right.{Right}
 use Rattle.reduce.proofs.Standing.{right-all, right-turn}
 use Rattle.reduce.proofs.check_row.check_whole.Statement.{statement}
 use Rattle.reduce.proofs.check_row.check_whole.Tie as tie
 
 abbrev Inv-loop : tie.InvT-loop
-Inv-loop kind packing n r0 r1 at s x₀ x = (x ≤ n) × Over at s x (pairOf (reduceOf kind packing) (drop r0 s) (drop r1 s)) s
+Inv-loop kind packing n r0 r1 at s rows₀ x₀ rows x = (x ≤ n) × (length rows ≡ length rows₀) × Over at s x (pairOf (reduceOf kind packing) (drop r0 s) (drop r1 s)) s
 
 abbrev μ-loop : tie.MeasureT-loop
-μ-loop kind packing n r0 r1 at s x₀ x = n - x
+μ-loop kind packing n r0 r1 at s rows₀ x₀ rows x = n - x
 
 loop-holds : tie.Need-loop-holds Inv-loop μ-loop
-loop-holds c = (omega arith, over-first _ _ _ (omega arith))
+loop-holds c = (omega arith, refl, over-first _ _ _ (omega arith))
 
 mul-a : tie.Need-mul-a Inv-loop μ-loop
 mul-a c = omega arith
@@ -36,15 +33,6 @@ mul-b c = omega arith
 add-b : tie.Need-add-b Inv-loop μ-loop
 add-b c = omega arith
 
-sub-check-srgb-part : tie.Need-sub-check-srgb-part Inv-loop μ-loop
-sub-check-srgb-part c = omega arith
-
-add-check-srgb-part : tie.Need-add-check-srgb-part Inv-loop μ-loop
-add-check-srgb-part c = omega arith
-
-check-srgb-part-requires : tie.Need-check-srgb-part-requires Inv-loop μ-loop
-check-srgb-part-requires c κs = omega arith
-
 sub-check-part : tie.Need-sub-check-part Inv-loop μ-loop
 sub-check-part c = omega arith
 
@@ -52,38 +40,44 @@ add-check-part : tie.Need-add-check-part Inv-loop μ-loop
 add-check-part c = omega arith
 
 check-part-requires : tie.Need-check-part-requires Inv-loop μ-loop
-check-part-requires c κs = (pos-of-ne-zero (c .match .rest .1), omega arith)
+check-part-requires c κs = omega arith
 
--- what a turn finds, by either arm
-made : (c : tie.At-match-came Inv-loop μ-loop)
-    → let loop = c .before .before in
-    let a = loop .before .before .args in
+same-length : tie.Need-same-length Inv-loop μ-loop
+same-length c = let e = c .before .before .before .before .before .before .loop .inv .1 in omega arith
+
+-- what a turn finds
+found : (c : tie.After-check-part Inv-loop μ-loop)
+    → let loop = c .before .before .before in
+    let a = loop .before .before .before .args in
     let f = pairOf (reduceOf (a .kind) (a .packing)) (drop (a .r0) (a .s .now)) (drop (a .r1) (a .s .now)) in
-    (loop .loop .x + c .match .right ≤ a .n) × Over (a .at) (a .s .now) (loop .loop .x + c .match .right) f (a .s .now) × (c .match .right < 1 → Right (a .at) (a .s .now) (a .n) f (loop .loop .x))
-made c =
-    let loop = c .before .before in
-    let a = loop .before .before .args in
-    ⊎-elim
-    (λ w. right-turn (reduceOf (a .kind) (a .packing)) (a .at) (a .r0) (a .r1) (a .n) (loop .loop .x) (min (a .n - loop .loop .x) 128) (c .match .right) (a .s .now) (loop .loop .inv .1) (omega arith) (omega arith) (omega arith) (omega arith) (omega arith) (rw (w .2, of-srgb (a .kind) (a .packing) (w .0 .keys1)) (w .1 .ensures)))
-    (λ w. right-turn (reduceOf (a .kind) (a .packing)) (a .at) (a .r0) (a .r1) (a .n) (loop .loop .x) (min (a .n - loop .loop .x) 64) (c .match .right) (a .s .now) (loop .loop .inv .1) (omega arith) (omega arith) (omega arith) (omega arith) (omega arith) (rw (w .2) (w .1 .ensures)))
-    (c .match .came)
+    (loop .loop .x + c .check-part .result ≤ a .n) × Over (a .at) (a .s .now) (loop .loop .x + c .check-part .result) f (a .s .now) × (c .check-part .result < 1 → Right (a .at) (a .s .now) (a .n) f (loop .loop .x))
+found c =
+    let loop = c .before .before .before in
+    let a = loop .before .before .before .args in
+    right-turn (reduceOf (a .kind) (a .packing)) (a .at) (a .r0) (a .r1) (a .n) (loop .loop .x) (min (a .n - loop .loop .x) 64) (c .check-part .result) (a .s .now) (loop .loop .inv .2) (omega arith) (omega arith) (omega arith) (omega arith) (omega arith) (c .check-part .ensures)
 
 returns : tie.Need-returns Inv-loop μ-loop
-returns c = made (c .before) .2 (c .if1 .taken)
+returns c = found (c .before .before .before) .2 (c .if1 .taken)
 
 add-x : tie.Need-add-x Inv-loop μ-loop
-add-x c = let m = made (c .before .before) in omega arith
+add-x c = let f = found (c .before .before .before) in omega arith
 
 loop-less : tie.Need-loop-less Inv-loop μ-loop
-loop-less c = let m = made (c .before .before) in omega arith
+loop-less c = let f = found (c .before .before .before) in omega arith
 
 loop-again : tie.Need-loop-again Inv-loop μ-loop
-loop-again c = let m = made (c .before .before) in (m .0, m .1)
+loop-again c =
+    let f = found (c .before .before .before) in
+    let e = c .before .before .before .before .before .before .loop .inv .1 in
+    (f .0, omega arith, f .1)
+
+same-length-2 : tie.Need-same-length-2 Inv-loop μ-loop
+same-length-2 c = c .before .loop .inv .1
 
 returns-2 : tie.Need-returns-2 Inv-loop μ-loop
 returns-2 c =
-    let e : c .before .loop .x ≡ c .before .before .before .args .n = omega arith in
-    rw (← e) (right-all (c .before .loop .inv .1))
+    let e : c .before .loop .x ≡ c .before .before .before .before .args .n = omega arith in
+    rw (← e) (right-all (c .before .loop .inv .2))
 
 pub check-whole-spec : {M : Type 1} → statement M
 check-whole-spec =
@@ -96,14 +90,13 @@ check-whole-spec =
     add-a
     mul-b
     add-b
-    sub-check-srgb-part
-    add-check-srgb-part
-    check-srgb-part-requires
     sub-check-part
     add-check-part
     check-part-requires
+    same-length
     returns
     add-x
     loop-less
     loop-again
+    same-length-2
     returns-2)
