@@ -22,7 +22,7 @@ unfoldable pub cellOf : (ℕ → ℕ → ℕ → ℕ → ℕ) → ℕ → ℕ �
 cellOf reduce w h w2 h2 l i = quad reduce w h l (i / w2 / h2) (i % w2) (i / w2 % h2)
 
 -- the run of all of them is the next level
-over-written : (reduce : ℕ → ℕ → ℕ → ℕ → ℕ) (faces w h : ℕ) (old : List ℕ)
+pub over-written : (reduce : ℕ → ℕ → ℕ → ℕ → ℕ) (faces w h : ℕ) (old : List ℕ)
     → over (faces * h * w) old (faces * half h * half w) (cellOf reduce w h (half w) (half h) (take (faces * h * w) old)) ≡ written reduce faces w h old
 unfolding over cellOf next grid written
 over-written reduce faces w h old = refl

@@ -72,13 +72,11 @@ module _ (reduce : ℕ → ℕ → ℕ → ℕ → ℕ) where
   two-columns p q m t em et = rw (et, em) (over-within 4 (columns p q) 1 (pairOf reduce (drop 0 (columns p q)) (drop 2 (columns p q))) 0 (lit≤ tt) (lit< tt))
 
   -- a row one wide: both places of a pair are its one texel
-  pub narrow-at : (r0 r1 : ℕ) (s : List ℕ) → reduce (getD s r0 0) (getD s r0 0) (getD s r1 0) (getD s r1 0) ≡ heldOf reduce 1 (drop r0 s) (drop r1 s) 0
-  unfolding heldOf
-  narrow-at r0 r1 s = rw (getD-drop r0 s 0 0, getD-drop r1 s 0 0, add-zero r0, add-zero r1)
-
   pub narrow-is : (to r0 r1 v : ℕ) (s : List ℕ) → to < length s → v ≡ reduce (getD s r0 0) (getD s r0 0) (getD s r1 0) (getD s r1 0)
       → set s to v ≡ over to s 1 (heldOf reduce 1 (drop r0 s) (drop r1 s))
-  narrow-is to r0 r1 v s lt e = over-one to s (heldOf reduce 1 (drop r0 s) (drop r1 s)) v lt (e ∙ narrow-at r0 r1 s)
+  unfolding heldOf
+  narrow-is to r0 r1 v s lt e =
+      over-one to s (heldOf reduce 1 (drop r0 s) (drop r1 s)) v lt (e ∙ rw (getD-drop r0 s 0 0, getD-drop r1 s 0 0, add-zero r0, add-zero r1))
 
   -- rows of two and more: no place is held
   pub wide-at : (w : ℕ) (a b : List ℕ) (k : ℕ) → k < w / 2 → pairOf reduce a b k ≡ heldOf reduce w a b k

@@ -3,18 +3,21 @@
 -- the first place that holds something else. Assumes nothing.
 use mathlib.Core.Path.{_≡_, refl, sym, ap, _∙_}
 use mathlib.Core.List.{List}
-use Prim.Native.Nat.{ℕ, _+_, _-_, _*_, _/_, _≤_, _<_}
-use native.Mathlib.Nat.{add-zero, zero-add}
+use Prim.Native.Nat.{ℕ, _+_, _-_, _*_, _/_, _≤_, _<_, min}
+use native.Mathlib.Nat.{add-zero, zero-add, zero-mul, one-mul, div-eq-of-lt, mod-eq-of-lt}
 use native.Mathlib.Omega.{arith}
 use lib.ListN.{length, getD, take, drop}
-use lib.Seq.{set-getD, getD-drop}
+use lib.Seq.{set-getD, getD-drop, getD-take}
 use borrow.Rule.Slice.PartAt.{part-to-end}
 use Rattle.rules.specs.Sizes.{half}
 use Rattle.kinds.specs.Runs.{over, pairOf}
 use Rattle.kinds.proofs.Runs.{length-over, over-before, over-within, over-ext, Over, over-is, over-first, over-set}
+use Rattle.rules.specs.Levels.{texel, quad}
 use Rattle.reduce.specs.Rows.{heldOf}
+use Rattle.reduce.specs.Levels.{written}
 use Rattle.reduce.specs.Right.{Right}
-use Rattle.reduce.proofs.Rows.{pair-shift, row-turn, narrow-at, wide-at}
+use Rattle.reduce.proofs.Rows.{pair-shift, row-turn, wide-at}
+use Rattle.reduce.proofs.Levels.{cellOf, over-written}
 
 module _ {at : ℕ} {s : List ℕ} {f : ℕ → ℕ} where
   -- one place more
@@ -43,41 +46,62 @@ module _ {at : ℕ} {s : List ℕ} {f : ℕ → ℕ} where
       }
 
 module _ (reduce : ℕ → ℕ → ℕ → ℕ → ℕ) where
-  -- a part, against what was made of a copy of its sources: `found` holds the copies, and `made` them and the part
-  pub part-right : {at m r : ℕ} (r0 r1 : ℕ) (s rows first found made : List ℕ) → m ≤ 64 → 320 ≤ length rows
-      → first ≡ over 0 rows (2 * m) (λ i. getD (take (length s - r0) (drop r0 s)) i 0)
-      → found ≡ over 128 first (2 * m) (λ i. getD (take (length s - r1) (drop r1 s)) i 0)
-      → made ≡ over 256 found m (pairOf reduce (drop 0 found) (drop 128 found))
-      → Right at s m (λ i. getD (take (length made - 256) (drop 256 made)) i 0) r → Right at s m (pairOf reduce (drop r0 s) (drop r1 s)) r
-  unfolding pairOf
-  part-right {m = m} r0 r1 s rows first found made few room e0 e1 em t = right-ext (pairOf reduce (drop r0 s) (drop r1 s)) same t
+  -- a part, against the level after two rows, w wide, that are copies of its sources: they stand in `found`, and with it in `made`
+  pub part-right : {at m r : ℕ} (w r0 r1 : ℕ) (s rows first found made : List ℕ) → 1 ≤ w → m ≡ half w → 2 * w ≤ length rows
+      → first ≡ over 0 rows w (λ i. getD (take (length s - r0) (drop r0 s)) i 0)
+      → found ≡ over w first w (λ i. getD (take (length s - r1) (drop r1 s)) i 0)
+      → made ≡ written reduce 1 w 2 found
+      → Right at s m (λ i. getD (take (length made - 2 * w) (drop (2 * w) made)) i 0) r → Right at s m (heldOf reduce w (drop r0 s) (drop r1 s)) r
+  unfolding cellOf quad texel heldOf
+  part-right {m = m} w r0 r1 s rows first found made some em room e0 e1 e2 t = right-ext (heldOf reduce w (drop r0 s) (drop r1 s)) same t
     where
       long : length first ≡ length rows
-      long = ap length e0 ∙ length-over 0 rows (2 * m) _ (omega arith)
+      long = ap length e0 ∙ length-over 0 rows w _ (omega arith)
 
-      upper : (i : ℕ) → i < 2 * m → getD found i 0 ≡ getD (drop r0 s) i 0
+      longer : length found ≡ length rows
+      longer = ap length e1 ∙ length-over w first w _ (omega (arith, long)) ∙ long
+
+      upper : (i : ℕ) → i < w → getD found i 0 ≡ getD (drop r0 s) i 0
       upper i lt =
           ap (λ (l : List ℕ). getD l i 0) e1
-          ∙ over-before 128 first (2 * m) _ i (omega (arith, long)) (omega arith)
+          ∙ over-before w first w _ i (omega (arith, long)) lt
           ∙ ap (λ (l : List ℕ). getD l i 0) e0
-          ∙ ap (λ (k : ℕ). getD (over 0 rows (2 * m) (λ i. getD (take (length s - r0) (drop r0 s)) i 0)) k 0) (sym (zero-add i))
-          ∙ over-within 0 rows (2 * m) _ i (omega arith) lt
+          ∙ ap (λ (k : ℕ). getD (over 0 rows w (λ i. getD (take (length s - r0) (drop r0 s)) i 0)) k 0) (sym (zero-add i))
+          ∙ over-within 0 rows w _ i (omega arith) lt
           ∙ ap (λ (l : List ℕ). getD l i 0) (part-to-end s r0)
 
-      lower : (i : ℕ) → i < 2 * m → getD (drop 128 found) i 0 ≡ getD (drop r1 s) i 0
+      lower : (i : ℕ) → i < w → getD found (w + i) 0 ≡ getD (drop r1 s) i 0
       lower i lt =
-          getD-drop 128 found i 0
-          ∙ ap (λ (l : List ℕ). getD l (128 + i) 0) e1
-          ∙ over-within 128 first (2 * m) _ i (omega (arith, long)) lt
+          ap (λ (l : List ℕ). getD l (w + i) 0) e1
+          ∙ over-within w first w _ i (omega (arith, long)) lt
           ∙ ap (λ (l : List ℕ). getD l i 0) (part-to-end s r1)
 
-      same : (k : ℕ) → k < m → getD (take (length made - 256) (drop 256 made)) k 0 ≡ pairOf reduce (drop r0 s) (drop r1 s) k
+      -- the texels of the small level
+      row0 : (i : ℕ) → i < w → getD (take (1 * 2 * w) found) ((0 * 2 + 2 * 0) * w + i) 0 ≡ getD (drop r0 s) i 0
+      row0 i lt = rw (zero-mul w, zero-add i) (getD-take (1 * 2 * w) found i 0 (omega arith) ∙ upper i lt)
+
+      row1 : (i : ℕ) → i < w → getD (take (1 * 2 * w) found) ((0 * 2 + 1) * w + i) 0 ≡ getD (drop r1 s) i 0
+      row1 i lt = rw (one-mul w) (getD-take (1 * 2 * w) found (w + i) 0 (omega arith) ∙ lower i lt)
+
+      same : (k : ℕ) → k < m → getD (take (length made - 2 * w) (drop (2 * w) made)) k 0 ≡ heldOf reduce w (drop r0 s) (drop r1 s) k
       same k lt =
-          ap (λ (l : List ℕ). getD l k 0) (part-to-end made 256)
-          ∙ getD-drop 256 made k 0
-          ∙ ap (λ (l : List ℕ). getD l (256 + k) 0) em
-          ∙ over-within 256 found m _ k (omega (arith, long, ap length e1 ∙ length-over 128 first (2 * m) _ (omega (arith, long)))) lt
-          ∙ rw (upper (2 * k) (omega arith), upper (2 * k + 1) (omega arith), lower (2 * k) (omega arith), lower (2 * k + 1) (omega arith))
+          let kw : k < half w = omega arith in
+          ap (λ (l : List ℕ). getD l k 0) (part-to-end made (2 * w))
+          ∙ getD-drop (2 * w) made k 0
+          ∙ ap (λ (l : List ℕ). getD l (2 * w + k) 0) (e2 ∙ sym (over-written reduce 1 w 2 found))
+          ∙ over-within (1 * 2 * w) found (1 * half 2 * half w) _ k (omega (arith, longer)) (omega arith)
+          ∙ rw (
+            div-eq-of-lt kw,
+            mod-eq-of-lt kw,
+            row0 (2 * k) (omega arith),
+            row0 (min (2 * k + 1) (w - 1)) (omega arith),
+            row1 (2 * k) (omega arith),
+            row1 (min (2 * k + 1) (w - 1)) (omega arith),
+          )
+
+  -- an even number of texels: each has a pair of its own
+  pub even-right : {at m r : ℕ} (a b s : List ℕ) → Right at s m (heldOf reduce (2 * m) a b) r → Right at s m (pairOf reduce a b) r
+  even-right {m = m} a b s t = right-ext (pairOf reduce a b) (λ k lt. sym (wide-at reduce (2 * m) a b k (omega arith))) t
 
   -- a turn of the loop over a row: a part of m places
   module _ (at r0 r1 n x m r : ℕ) (s : List ℕ) (o : Over at s x (pairOf reduce (drop r0 s) (drop r1 s)) s)
@@ -100,26 +124,9 @@ module _ (reduce : ℕ → ℕ → ℕ → ℕ → ℕ) where
     pub right-turn : (x + r ≤ n) × Over at s (x + r) (pairOf reduce (drop r0 s) (drop r1 s)) s × (r < 1 → Right at s n (pairOf reduce (drop r0 s) (drop r1 s)) x)
     right-turn = let most = t .most in (omega arith, turn-more, turn-stop)
 
-  -- a row one wide
-  module _ (at r0 r1 v : ℕ) (s : List ℕ) (lt : at < length s) (e : v ≡ reduce (getD s r0 0) (getD s r0 0) (getD s r1 0) (getD s r1 0)) where
-    pub narrow-right : v ≡ getD s at 0 → Right at s 1 (heldOf reduce 1 (drop r0 s) (drop r1 s)) 1
-    narrow-right same =
-        let z : at + 0 ≡ at = omega arith in
-        right-all (stands-more (over-first at s (heldOf reduce 1 (drop r0 s) (drop r1 s)) (omega arith)) (omega arith) (rw z (sym same ∙ e ∙ narrow-at reduce r0 r1 s)))
-
-    pub narrow-wrong : (v ≡ getD s at 0 → ⊥) → Right at s 1 (heldOf reduce 1 (drop r0 s) (drop r1 s)) 0
-    narrow-wrong differs =
-        let z : at + 0 ≡ at = omega arith in
-        right-stop (over-first at s (heldOf reduce 1 (drop r0 s) (drop r1 s)) (omega arith)) (omega arith)
-        (λ same. differs (e ∙ narrow-at reduce r0 r1 s ∙ sym (rw z at same)))
-
-  -- rows of two and more, and rows of one
+  -- rows of two and more: no place is held
   pub wide-right : {at w r : ℕ} (r0 r1 : ℕ) (s : List ℕ) → 2 ≤ w → Right at s (w / 2) (pairOf reduce (drop r0 s) (drop r1 s)) r
       → Right at s (half w) (heldOf reduce w (drop r0 s) (drop r1 s)) r
   wide-right {w = w} r0 r1 s le t =
       let z : half w ≡ w / 2 = omega arith in
       rw z (right-ext (heldOf reduce w (drop r0 s) (drop r1 s)) (wide-at reduce w (drop r0 s) (drop r1 s)) t)
-
-  pub one-right : {at w r : ℕ} (r0 r1 : ℕ) (s : List ℕ) → 1 ≤ w → w < 2 → Right at s 1 (heldOf reduce 1 (drop r0 s) (drop r1 s)) r
-      → Right at s (half w) (heldOf reduce w (drop r0 s) (drop r1 s)) r
-  one-right {w = w} r0 r1 s le lt t = let z : w ≡ 1 = omega arith in rw z t

@@ -22,7 +22,7 @@ pub fn check_next(kind: u32, packing: Packing, faces: usize, w: usize, h: usize,
     let h2 = halved(h);
     let n = size(faces, w, h);
     let rows = faces * h2;
-    let mut made = [0u32; 320];
+    let mut made = [0u32; 640];
     let mut y = 0;
     while y < rows {
         let r = rows_above(y, w, h, h2);

@@ -29,7 +29,7 @@ pub fn put(n: usize, to: usize, o: &[u32], s: &mut [u32])
 
 // The first of n texels of a row, 64 at most, and how many: made in a part from the pairs at r0 and r1, then put at `to`. For a kind
 // that needs no table.
-pub fn part(
+fn part(
     kind: u32,
     packing: Packing,
     n: usize,
@@ -52,14 +52,7 @@ pub fn part(
 
 // The same for SRGB, 128 at most. Its tables stand in this function's frame, which no other kind enters: called from two places, it
 // is not compiled into its callers.
-pub fn srgb_part(
-    packing: Packing,
-    n: usize,
-    r0: usize,
-    r1: usize,
-    to: usize,
-    s: &mut [u32],
-) -> usize
+fn srgb_part(packing: Packing, n: usize, r0: usize, r1: usize, to: usize, s: &mut [u32]) -> usize
     requires { ⌜ (r0 + 2 * n ≤ to) × (r1 + 2 * n ≤ to) × (to + n ≤ length (now s)) ⌝ }
     ensures count { λ m. ⌜ m ≡ min n 128 ⌝ }
     ensures { λ m. ⌜ now (s .exit) ≡ over to (now (s .entry)) m (pairOf (srgbOf packing) (drop r0 (now (s .entry))) (drop r1 (now (s .entry)))) ⌝ }

@@ -14,7 +14,7 @@ use Rattle.reduce.proofs.check_level.check_next.Statement.{statement}
 use Rattle.reduce.proofs.check_level.check_next.Tie as tie
 
 abbrev Inv-loop : tie.InvT-loop
-Inv-loop kind packing faces w h s w2 h2 n rows made₀ y₀ made y = (320 ≡ length made) × Rows (reduceOf kind packing) faces w h w2 h2 n s s y
+Inv-loop kind packing faces w h s w2 h2 n rows made₀ y₀ made y = (640 ≡ length made) × Rows (reduceOf kind packing) faces w h w2 h2 n s s y
 
 abbrev μ-loop : tie.MeasureT-loop
 μ-loop kind packing faces w h s w2 h2 n rows made₀ y₀ made y = faces * h2 - y

@@ -6,14 +6,8 @@ use Rattle.reduce.proofs.Standing.{part-right}
 use Rattle.reduce.proofs.check_row.check_part.Statement.{statement}
 use Rattle.reduce.proofs.check_row.check_part.Tie as tie
 
-least-requires : tie.Need-least-requires
-least-requires c κs = search needs
-
 mul-put : tie.Need-mul-put
 mul-put c = search needs
-
-mul-put-2 : tie.Need-mul-put-2
-mul-put-2 c = search needs
 
 sub-put : tie.Need-sub-put
 sub-put c = search needs
@@ -27,11 +21,8 @@ part-put-end c = search needs
 put-requires : tie.Need-put-requires
 put-requires c κs = search needs
 
-mul-put-3 : tie.Need-mul-put-3
-mul-put-3 c = search needs
-
-mul-put-4 : tie.Need-mul-put-4
-mul-put-4 c = search needs
+mul-put-2 : tie.Need-mul-put-2
+mul-put-2 c = search needs
 
 sub-put-2 : tie.Need-sub-put-2
 sub-put-2 c = search needs
@@ -45,8 +36,14 @@ part-put-end-2 c = search needs
 put-requires-2 : tie.Need-put-requires-2
 put-requires-2 c κs = search needs
 
-make-part-requires : tie.Need-make-part-requires
-make-part-requires c κs = search needs
+write-next-requires : tie.Need-write-next-requires
+write-next-requires c κs = search needs
+
+mul-alike : tie.Need-mul-alike
+mul-alike c = search needs
+
+mul-alike-2 : tie.Need-mul-alike-2
+mul-alike-2 c = search needs
 
 sub-alike : tie.Need-sub-alike
 sub-alike c = search needs
@@ -65,32 +62,29 @@ same-length c = search needs
 
 returns : tie.Need-returns
 returns c =
-    let made = c .before .before .before .before .before in
-    let second = made .before .before .before .before in
+    let step = c .before .before .before .before .before in
+    let second = step .before .before .before .before in
     let first = second .before .before .before .before .before in
-    let least = first .before .before .before in
-    let a = least .before .before .before .args in
-    rw (← least .least .ensures)
-    (part-right (reduceOf (a .kind) (a .packing)) (a .r0) (a .r1) (a .s .now) (a .rows .now) _ _ _ (let e = least .least .ensures in omega arith) (omega arith) (first .put .ensures) (second .put2 .ensures) (made .make-part .ensures) (c .alike .ensures))
+    let a = first .before .before .before .before .before .args in
+    part-right (reduceOf (a .kind) (a .packing)) (a .w) (a .r0) (a .r1) (a .s .now) (a .made .now) _ _ _ (omega arith) (omega arith) (omega arith) (first .put .ensures) (second .put2 .ensures) (step .write-next .ensures) (c .alike .ensures)
 
 pub check-part-spec : {M : Type 1} → statement M
 check-part-spec =
     tie.close
     (tie.spec
-    least-requires
     mul-put
-    mul-put-2
     sub-put
     part-put-start
     part-put-end
     put-requires
-    mul-put-3
-    mul-put-4
+    mul-put-2
     sub-put-2
     part-put-start-2
     part-put-end-2
     put-requires-2
-    make-part-requires
+    write-next-requires
+    mul-alike
+    mul-alike-2
     sub-alike
     part-alike-start
     part-alike-end
