@@ -3,8 +3,8 @@
 use crate::channel::Quad;
 use crate::channel::pairs_at;
 ghost use mathlib.Core.Path.{_≡_};
-ghost use Prim.Native.Nat.{_+_, _*_, _/_, _%_, _<_, _≤_};
-ghost use lib.ListN.{length};
+ghost use Prim.Native.Nat.{ℕ, _+_, _*_, _/_, _%_, _<_, _≤_};
+ghost use lib.ListN.{length, getD};
 ghost use Rattle.rules.specs.declared.Packing.the-variants.{Nearest};
 ghost use Rattle.rules.specs.Kinds.{redOf, greenOf, blueOf, alphaOf};
 ghost use Rattle.rules.specs.Reducing.{linearOf};
@@ -64,4 +64,30 @@ pub fn row(n: usize, a: &[u32], b: &[u32], o: &mut [u32])
         o[x] = reduced(pairs_at(x, a, b));
         x += 1;
     }
+}
+
+// 1 where a texel is not the one of four, else 0. It has the whole numbers of `reduced` to itself: called from here too, that would be
+// worked into no row.
+fn unlike(q: Quad, t: u32) -> u32
+    ensures { λ r. ⌜ (r ≤ 1) × ((r ≡ 0) → (t ≡ linearOf Nearest (q .p00) (q .p10) (q .p01) (q .p11))) ⌝ }
+{
+    if quarters(reds_blues(q)) * 256 + quarters(greens_alphas(q)) == t {
+        0
+    } else {
+        1
+    }
+}
+
+// How many of the first n texels of c are not those of their pairs.
+pub fn count_unlike(n: usize, a: &[u32], b: &[u32], c: &[u32]) -> u32
+    requires { ⌜ (n ≤ 128) × (n ≤ length (now c)) × (2 * n ≤ length (now a)) × (2 * n ≤ length (now b)) ⌝ }
+    ensures { λ r. ⌜ ((r ≡ 0) → (k : ℕ) → k < n → getD (now (c .entry)) k 0 ≡ pairOf (linearOf Nearest) (now (a .entry)) (now (b .entry)) k) ⌝ }
+{
+    let mut count = 0u32;
+    let mut x = 0;
+    while x < n {
+        count += unlike(pairs_at(x, a, b), c[x]);
+        x += 1;
+    }
+    count
 }

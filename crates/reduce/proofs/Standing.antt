@@ -3,8 +3,9 @@
 -- the first place that holds something else. Assumes nothing.
 use mathlib.Core.Path.{_≡_, refl, sym, ap, _∙_}
 use mathlib.Core.List.{List}
-use Prim.Native.Nat.{ℕ, _+_, _-_, _*_, _/_, _≤_, _<_, min}
+use Prim.Native.Nat.{ℕ, zero, suc, _+_, _-_, _*_, _/_, _≤_, _<_, min}
 use native.Mathlib.Nat.{add-zero, zero-add, zero-mul, one-mul, div-eq-of-lt, mod-eq-of-lt}
+use native.Mathlib.Numerals.{add-one}
 use native.Mathlib.Omega.{arith}
 use lib.ListN.{length, getD, take, drop}
 use lib.Seq.{set-getD, getD-drop, getD-take}
@@ -23,6 +24,11 @@ module _ {at : ℕ} {s : List ℕ} {f : ℕ → ℕ} where
   -- one place more
   pub stands-more : {n : ℕ} → Over at s n f s → at + n < length s → getD s (at + n) 0 ≡ f n → Over at s (n + 1) f s
   stands-more {n} o lt e = rw (set-getD s (at + n) 0) at (over-set o (at + n) (getD s (at + n) 0) refl lt e)
+
+  -- n places, each by itself
+  pub stands-all : (n : ℕ) → at + n ≤ length s → ((k : ℕ) → k < n → getD s (at + k) 0 ≡ f k) → Over at s n f s
+  stands-all zero room same = over-first at s f (omega arith)
+  stands-all (suc n) room same = rw (add-one n) at (stands-more (stands-all n (omega arith) (λ k lt. same k (omega arith))) (omega arith) (same n (omega arith)))
 
   -- all n
   pub right-all : {n : ℕ} → Over at s n f s → Right at s n f n
@@ -98,6 +104,13 @@ module _ (reduce : ℕ → ℕ → ℕ → ℕ → ℕ) where
             row1 (2 * k) (omega arith),
             row1 (min (2 * k + 1) (w - 1)) (omega arith),
           )
+
+  -- a part that was looked at where it stands, with its sources
+  pub looked-right : {m : ℕ} (at r0 r1 : ℕ) (s : List ℕ) → at + m ≤ length s
+      → ((k : ℕ) → k < m → getD (take (length s - at) (drop at s)) k 0 ≡ pairOf reduce (take (length s - r0) (drop r0 s)) (take (length s - r1) (drop r1 s)) k)
+      → Right at s m (pairOf reduce (drop r0 s) (drop r1 s)) m
+  looked-right {m} at r0 r1 s room same =
+      right-all (stands-all m room (λ k lt. sym (getD-drop at s k 0) ∙ rw (part-to-end s at, part-to-end s r0, part-to-end s r1) at (same k lt)))
 
   -- an even number of texels: each has a pair of its own
   pub even-right : {at m r : ℕ} (a b s : List ℕ) → Right at s m (heldOf reduce (2 * m) a b) r → Right at s m (pairOf reduce a b) r

@@ -7,6 +7,7 @@ use crate::row::least;
 use crate::row::put;
 use rules::Packing;
 ghost use mathlib.Core.Path.{_≡_};
+ghost use mathlib.Core.Bool.{true};
 ghost use Prim.Native.Nat.{_+_, _*_, _≤_};
 ghost use lib.ListN.{length, drop};
 ghost use Rattle.rules.specs.Sizes.{half};
@@ -37,6 +38,50 @@ fn check_part(
     alike(m, at, &made[2 * w..], s)
 }
 
+// Whether all m texels at `at` are those of the pairs at r0 and r1, where whole numbers tell: Linear and Cubemap in nearest mode. Their
+// texels are made so fast that copies of their sources would be felt.
+fn told_by_wholes(
+    kind: u32,
+    packing: Packing,
+    m: usize,
+    r0: usize,
+    r1: usize,
+    at: usize,
+    s: &[u32],
+) -> bool
+    requires { ⌜ (m ≤ 128) × (r0 + 2 * m ≤ at) × (r1 + 2 * m ≤ at) × (at + m ≤ length (now s)) ⌝ }
+    ensures { λ r. ⌜ ((r ≡ true) → Right at (now (s .entry)) m (pairOf (reduceOf kind packing) (drop r0 (now (s .entry))) (drop r1 (now (s .entry)))) m) ⌝ }
+{
+    if kind < 3 {
+        return false;
+    }
+    match packing {
+        Packing::Truncating => false,
+        Packing::Nearest => kinds::rounded::count_unlike(m, &s[r0..], &s[r1..], &s[at..]) == 0,
+    }
+}
+
+// The m texels at `at`, against the pairs at r0 and r1.
+fn check_pairs(
+    kind: u32,
+    packing: Packing,
+    m: usize,
+    r0: usize,
+    r1: usize,
+    at: usize,
+    s: &[u32],
+    made: &mut [u32],
+) -> usize
+    requires { ⌜ (1 ≤ m) × (m ≤ 128) ⌝ }
+    requires { ⌜ (r0 + 2 * m ≤ at) × (r1 + 2 * m ≤ at) × (at + m ≤ length (now s)) × (640 ≤ length (now made)) ⌝ }
+    ensures { λ r. ⌜ Right at (now (s .entry)) m (pairOf (reduceOf kind packing) (drop r0 (now (s .entry))) (drop r1 (now (s .entry)))) r ⌝ }
+{
+    if told_by_wholes(kind, packing, m, r0, r1, at, s) {
+        return m;
+    }
+    check_part(kind, packing, 2 * m, m, r0, r1, at, s, made)
+}
+
 // A row of n texels whose sources, at r0 and r1, have a pair for each, part after part: a part of which none is right begins with a
 // wrong texel.
 fn check_whole(
@@ -57,7 +102,7 @@ fn check_whole(
         let a = r0 + 2 * x;
         let b = r1 + 2 * x;
         let m = least(n - x, 128);
-        let right = check_part(kind, packing, 2 * m, m, a, b, at + x, s, made);
+        let right = check_pairs(kind, packing, m, a, b, at + x, s, made);
         if right < 1 {
             return x;
         }

@@ -9,7 +9,7 @@ use Rattle.rules.specs.Reducing.{reduceOf}
 use Rattle.kinds.proofs.Runs.{Over, over-first}
 use Rattle.kinds.specs.Runs.{pairOf}
 use Rattle.reduce.specs.Right.{Right}
-use Rattle.reduce.proofs.Standing.{right-all, even-right, right-turn}
+use Rattle.reduce.proofs.Standing.{right-all, right-turn}
 use Rattle.reduce.proofs.check_row.check_whole.Statement.{statement}
 use Rattle.reduce.proofs.check_row.check_whole.Tie as tie
 
@@ -40,32 +40,29 @@ sub-least c = omega arith
 least-requires : tie.Need-least-requires Inv-loop μ-loop
 least-requires c κs = search needs
 
-mul-check-part : tie.Need-mul-check-part Inv-loop μ-loop
-mul-check-part c = omega arith
+add-check-pairs : tie.Need-add-check-pairs Inv-loop μ-loop
+add-check-pairs c = omega arith
 
-add-check-part : tie.Need-add-check-part Inv-loop μ-loop
-add-check-part c = omega arith
-
-check-part-requires : tie.Need-check-part-requires Inv-loop μ-loop
-check-part-requires c κs = let e = c .before .least .ensures in omega arith
+check-pairs-requires : tie.Need-check-pairs-requires Inv-loop μ-loop
+check-pairs-requires c κs = let e = c .before .least .ensures in omega arith
 
 same-length : tie.Need-same-length Inv-loop μ-loop
 same-length c = let e = c .before .before .before .before .before .before .before .loop .inv .1 in omega arith
 
 -- what a turn finds
-found : (c : tie.After-check-part Inv-loop μ-loop)
+found : (c : tie.After-check-pairs Inv-loop μ-loop)
     → let loop = c .before .before .before .before in
     let a = loop .before .before .before .args in
     let f = pairOf (reduceOf (a .kind) (a .packing)) (drop (a .r0) (a .s .now)) (drop (a .r1) (a .s .now)) in
-    (loop .loop .x + c .check-part .result ≤ a .n) × Over (a .at) (a .s .now) (loop .loop .x + c .check-part .result) f (a .s .now) × (c .check-part .result < 1 → Right (a .at) (a .s .now) (a .n) f (loop .loop .x))
+    (loop .loop .x + c .check-pairs .result ≤ a .n) × Over (a .at) (a .s .now) (loop .loop .x + c .check-pairs .result) f (a .s .now) × (c .check-pairs .result < 1 → Right (a .at) (a .s .now) (a .n) f (loop .loop .x))
 found c =
     let least = c .before .before in
     let loop = least .before .before in
     let a = loop .before .before .before .args in
     let m = least .least .ensures in
     let reduce = reduceOf (a .kind) (a .packing) in
-    right-turn reduce (a .at) (a .r0) (a .r1) (a .n) (loop .loop .x) (least .least .result) (c .check-part .result) (a .s .now) (loop .loop .inv .2) (omega arith) (omega arith) (omega arith) (omega arith) (omega arith)
-    (even-right reduce _ _ (a .s .now) (c .check-part .ensures))
+    right-turn reduce (a .at) (a .r0) (a .r1) (a .n) (loop .loop .x) (least .least .result) (c .check-pairs .result) (a .s .now) (loop .loop .inv .2) (omega arith) (omega arith) (omega arith) (omega arith) (omega arith)
+    (c .check-pairs .ensures)
 
 returns : tie.Need-returns Inv-loop μ-loop
 returns c = found (c .before .before .before) .2 (c .if1 .taken)
@@ -103,9 +100,8 @@ check-whole-spec =
     add-b
     sub-least
     least-requires
-    mul-check-part
-    add-check-part
-    check-part-requires
+    add-check-pairs
+    check-pairs-requires
     same-length
     returns
     add-x
