@@ -37,10 +37,12 @@ static void check(void) {
     if (verdict[0] != 1) abort();
 }
 
+/* A check holds copies of two rows' parts besides, and what is made of them. */
 static const struct {
     const char *name;
     void (*work)(void);
-} calls[] = {{"chain call", chain}, {"check", check}};
+    size_t besides;
+} calls[] = {{"chain call", chain, 0}, {"check", check, 2048}};
 
 static size_t used(void (*work)(void)) {
     memset(stack, PAINT, ROOM);
@@ -72,8 +74,9 @@ int main(void) {
         for (mode = 0; mode < sizeof modes / sizeof *modes; mode++)
             for (kind = 0; kind < sizeof kinds / sizeof *kinds; kind++) {
                 size_t wide = depth(calls[call].work, LONG, SHORT), high = depth(calls[call].work, SHORT, LONG), deepest = wide > high ? wide : high;
-                printf("stack of a %s, %s, %s: %zu bytes, limit %zu\n", calls[call].name, kinds[kind].name, modes[mode], deepest, kinds[kind].limit);
-                past |= deepest > kinds[kind].limit;
+                size_t limit = kinds[kind].limit + calls[call].besides;
+                printf("stack of a %s, %s, %s: %zu bytes, limit %zu\n", calls[call].name, kinds[kind].name, modes[mode], deepest, limit);
+                past |= deepest > limit;
             }
     return past;
 }
