@@ -12,7 +12,7 @@ use lib.Seq.{set-getD, getD-drop, getD-take}
 use borrow.Rule.Slice.PartAt.{part-to-end}
 use Rattle.rules.specs.Sizes.{half}
 use Rattle.kinds.specs.Runs.{over, pairOf}
-use Rattle.kinds.proofs.Runs.{length-over, over-before, over-within, over-ext, Over, over-is, over-first, over-set}
+use Rattle.kinds.proofs.Runs.{length-over, over-before, over-within, over-ext, Over, over-first, over-set}
 use Rattle.rules.specs.Levels.{texel, quad}
 use Rattle.reduce.specs.Rows.{heldOf}
 use Rattle.reduce.specs.Levels.{written}
@@ -37,9 +37,6 @@ module _ {at : ℕ} {s : List ℕ} {f : ℕ → ℕ} where
   -- r of them, and then another texel
   pub right-stop : {n r : ℕ} → Over at s r f s → r ≤ n → (getD s (at + r) 0 ≡ f r → ⊥) → Right at s n f r
   right-stop o le differs = record { most = le; same = o .holds; other = λ lt e. differs e }
-
-  pub right-over : {n r : ℕ} → Right at s n f r → at + n ≤ length s → Over at s r f s
-  right-over {r = r} t room = over-is at s r f s (let m = t .most in omega arith) (t .same)
 
   -- the same texels, worked out otherwise
   pub right-ext : {n r : ℕ} (g : ℕ → ℕ) → ((k : ℕ) → k < n → f k ≡ g k) → Right at s n f r → Right at s n g r
