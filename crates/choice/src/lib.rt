@@ -1,4 +1,6 @@
 // Choices that compile to no branch: both arms are worked out already.
+#![tactic(auto)]
+
 ghost use Rattle.std.specs.Prelude.{◌≡◌, cond, ◌&&◌, ◌||◌, ◌≤◌, min, max};
 ghost use Rattle.rules.specs.Refusals.{unless as unlessOf, ◌or_else◌};
 

@@ -1,6 +1,8 @@
 // Lighting coefficients: a cubemap as four irradiance coefficients per colour.
 // It stands on the unit's own calls `level_sizes` and `srgb_to_linear`; the bytes of a texel, the square root and the smaller of two numbers
 // are those of the crates below.
+#![tactic(auto)]
+
 pub mod call;
 pub mod part;
 pub mod place;

@@ -1,4 +1,6 @@
 // By kind and packing mode: one texel of four, and a row of them from the two rows above.
+#![tactic(auto)]
+
 ghost use Rattle.std.specs.Prelude.{◌≡◌, ◌*◌, ◌<◌, ◌≤◌, length};
 ghost use Rattle.rules.specs.Reducing.{reduce_of};
 ghost use Rattle.kinds.specs.Runs.{over, pair_of};

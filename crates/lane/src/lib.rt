@@ -1,4 +1,6 @@
 // The lookups' parts: the places of four lanes, the texels that are read there, and what they make.
+#![tactic(auto)]
+
 pub mod bilinear;
 mod corners;
 pub mod cubemap;

@@ -1,4 +1,6 @@
 // Levels of a picture that lies in a lent buffer: their sizes, the chain and its check, the view, the cut and the cross.
+#![tactic(auto)]
+
 pub mod chain;
 pub mod check;
 pub mod cross;

@@ -1,4 +1,6 @@
 // The listing program: reads a TXR file from standard input and writes a line for each of its levels, or why it is refused.
+#![tactic(auto)]
+
 use libc::{STDIN_FILENO, STDOUT_FILENO};
 
 // No more than 65,547 bytes are read: one more than any file that is not refused.

@@ -1,5 +1,7 @@
 // Lists many inputs: each stands in standard input behind its length, two bytes little-endian.
 // tools/listing_runs.py makes the stored stdin and stdout, the answers from document 01's text alone.
+#![tactic(auto)]
+
 ghost use Rattle.std.specs.Prelude.{◌+◌, ◌<◌, min, ◌≡◌};
 
 use libc::{STDIN_FILENO, STDOUT_FILENO};

@@ -1,4 +1,6 @@
 // The lookups: the station's samplers, four lanes at a time.
+#![tactic(auto)]
+
 mod bilinear;
 mod cubemap;
 mod facing;

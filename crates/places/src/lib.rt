@@ -1,4 +1,6 @@
 // Where a lookup reads: the numbers of one lane, with no texel read.
+#![tactic(auto)]
+
 pub mod axis;
 pub mod blend;
 pub mod coordinate;

@@ -1,4 +1,6 @@
 // Levels, each made from the one before in one lent buffer; and levels that stand there, each held against the one before.
+#![tactic(auto)]
+
 pub mod alike;
 pub mod chain;
 pub mod check_block;

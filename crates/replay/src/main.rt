@@ -1,4 +1,6 @@
 // Replays the stored list of answers on the unit and writes how many agree. bindings/compare/ANSWERS.md describes the list.
+#![tactic(auto)]
+
 mod answers;
 mod asks;
 mod checks;

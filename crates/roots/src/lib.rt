@@ -1,4 +1,6 @@
 // The square root behind a C name, so that it is compared alone. No part of the unit: the station's archive does not have it.
+#![tactic(auto)]
+
 ghost use Rattle.std.specs.Prelude.{◌≡◌};
 ghost use Rattle.roots.specs.Alone.{root_alone};
 

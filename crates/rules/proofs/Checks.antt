@@ -47,24 +47,26 @@ module _ (right : ℕ → Bool) where
     pub wrong : right p ≡ false
     pub others : (k : ℕ) → i ≤ k → k < p → right k ≡ true
 
+  also-here : (i n : ℕ) → right i ≡ true → ((k : ℕ) → suc i ≤ k → k < suc i + n → right k ≡ true) → (k : ℕ) → i ≤ k → k < i + suc n → right k ≡ true
+  also-here i n here all k le lt = elim (dec_le k i) [ yes e ↦ let z : k ≡ i = omega arith in rw z here | no f ↦ all k (omega arith) (omega arith) ]
+
+  first_later : (i n p : ℕ) → right i ≡ true → First (suc i) n p → First i (suc n) p
+  first_later i n p here f =
+      record {
+        from = omega arith;
+        before = omega arith;
+        wrong = f.wrong;
+        others = λ k le lt. elim (dec_le k i) [ yes e ↦ let z : k ≡ i = omega arith in rw z here | no g ↦ f.others k (omega arith) lt ];
+      }
+
   pub first-judged : (i n : ℕ) → ((k : ℕ) → i ≤ k → k < i + n → right k ≡ true) ⊎ ((p : ℕ) × First i n p)
   first-judged i zero = inl (λ k le lt. absurd (omega arith))
   first-judged i (suc n) =
       ⊎_elim
       (λ here.
       ⊎_elim
-      (λ all. inl (λ k le lt. elim (dec_le k i) [ yes e ↦ let z : k ≡ i = omega arith in rw z here | no f ↦ all k (omega arith) (omega arith) ]))
-      (λ some.
-      let f = some.1 in
-      inr (
-        some.0,
-        record {
-          from = omega arith;
-          before = omega arith;
-          wrong = f.wrong;
-          others = λ k le lt. elim (dec_le k i) [ yes e ↦ let z : k ≡ i = omega arith in rw z here | no g ↦ f.others k (omega arith) lt ];
-        },
-      ))
+      (λ all. inl (also-here i n here all))
+      (λ some. inr (some.0, first_later i n some.0 here some.1))
       (first-judged (suc i) n))
       (λ not. inr (i, record { from = omega arith; before = omega arith; wrong = not; others = λ k le lt. absurd (omega arith) }))
       (two (right i))

@@ -1,4 +1,5 @@
 // The records that the calls take and the answers that they give. What each call answers is said in specs/.
+#![tactic(auto)]
 
 // Four numbers that travel together, one a lane.
 #[derive(Drop)]

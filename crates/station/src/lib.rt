@@ -1,4 +1,6 @@
 // The C boundary: what a station links. Each export is one call of the unit: numbers in, a refusal number out, 0 where it was done.
+#![tactic(auto)]
+
 pub mod beside;
 pub mod checks;
 pub mod lanes;

@@ -1,4 +1,6 @@
 // One texel and one number: bytes, packing, whole numbers.
+#![tactic(auto)]
+
 pub mod bytes;
 pub mod curve;
 pub mod index;

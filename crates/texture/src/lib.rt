@@ -1,5 +1,7 @@
 // The texture unit: every public call, and the records and answers of the calls. No call has a `requires`; what each answers and
 // what it leaves in the buffers that it was lent is said in crates/rules/specs/Answers.antt.
+#![tactic(auto)]
+
 pub use levels::chain::generate_mipmaps;
 pub use levels::check::{check_chain, check_level};
 pub use levels::cross::cut_cross;

@@ -1,4 +1,6 @@
 // A TXR file, parsed, and its levels listed.
+#![tactic(auto)]
+
 mod digits;
 mod file;
 mod lines;
