@@ -1,0 +1,6 @@
+-- `choice::all_four` meets its contract: three joined tests.
+use borrow.Author.Rules.{rules}
+use Rattle.choice.proofs.all_four.Goals as goal
+
+pub returns : goal.returns
+returns c = rw (c.both-3.ensures, c.both-2.ensures, c.both.ensures)
