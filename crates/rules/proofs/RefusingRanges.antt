@@ -15,7 +15,7 @@ use Rattle.rules.specs.declared.Written.TheVariants.{Bytes, Refused as NoBytes}
 use Rattle.rules.specs.Kinds.{cubemap, faces_of}
 use Rattle.rules.specs.Sizes.{side_at, start, count}
 use Rattle.rules.specs.Ranges.{tile, range_of, ranges_of, ranges_size, range_start, replaced, range_replaced}
-use Rattle.rules.specs.Refusals.{◌or_else◌, buffer_refusal, no_cubemap_refusal, picture_refusal, outside_refusal, ranges_refusal, replace_refusal}
+use Rattle.rules.specs.Refusals.{buffer_refusal, no_cubemap_refusal, picture_refusal, outside_refusal, ranges_refusal, replace_refusal}
 use Rattle.rules.specs.Answers.{level_sizes_answer, ranges_answer, ranges_leaves, replace_leaves, replace_ranges_leaves}
 use Rattle.rules.proofs.Refusing.{none_or_some, answer-given, answer-refused, sizes-taken, sizes-picture, or_else-zero, or_else-given, or_else-none, or_else-taken, unless-true, unless-false, unless-none, and-true, and_both, test-false, buffer-taken, buffer_facts, buffer-refused, flat-taken, flat-facts, Taken, picture-taken, picture-facts}
 

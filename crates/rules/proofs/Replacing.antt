@@ -13,7 +13,7 @@ use lib.Seq.{sets, sets-eq, length-sets, length-take-le, take_at, drop_at, drop-
 use Rattle.rules.specs.Kinds.{faces_of}
 use Rattle.rules.specs.Ranges.{range_of, tile, ranges_of, ranges_size, range_start, replaced, range_replaced}
 use Rattle.rules.specs.Refusals.{replace_refusal}
-use Rattle.rules.specs.Answers.{leaves, ranges_leaves, replace_leaves, replace_ranges_leaves}
+use Rattle.rules.specs.Answers.{ranges_leaves, replace_leaves, replace_ranges_leaves}
 use Rattle.rules.specs.Series.{Beside, Replacement, built, after_all}
 use Rattle.rules.proofs.Refusing.{none_or_some, answer-given, answer-refused, by-refusal}
 use Rattle.rules.proofs.Bounds.{faces-flat}

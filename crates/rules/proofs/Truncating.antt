@@ -12,7 +12,7 @@ use Rattle.rules.specs.Sizes.{count}
 use Rattle.rules.specs.Floats.{top32}
 use Rattle.rules.specs.Packing.{packing_code, pack_of}
 use Rattle.rules.specs.Pictures.{filled_of}
-use Rattle.rules.specs.Refusals.{◌or_else◌, chain_refusal, mipmaps_refusal, mode_refusal}
+use Rattle.rules.specs.Refusals.{chain_refusal, mipmaps_refusal, mode_refusal}
 use Rattle.rules.specs.Answers.{answer, leaves, chain_answer, chain_leaves}
 use Rattle.rules.proofs.Refusing.{or_else-last}
 

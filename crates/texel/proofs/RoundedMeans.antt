@@ -5,7 +5,7 @@
 -- need of each n is a computed test. Assumes nothing.
 use mathlib.Core.Path.{◌≡◌, subst}
 use mathlib.Core.Bool.{false, cond}
-use Prim.Native.Nat.{ℕ, zero, suc, ◌+◌, ◌-◌, ◌*◌, ◌/◌, ◌%◌, ◌^◌, ◌≤◌, ◌<◌, min, zero-le}
+use Prim.Native.Nat.{ℕ, zero, suc, ◌+◌, ◌-◌, ◌*◌, ◌/◌, ◌%◌, ◌≤◌, ◌<◌, min, zero-le}
 use native.Mathlib.Nat.{add-zero, lt_of_not-le, le_trans, le_antisymm, mul-le-mul_right, mul-add}
 use native.Mathlib.Omega.{arith}
 use native.Mathlib.Decide.{dec_le}

@@ -1,5 +1,4 @@
 -- `choice::all_four` meets its contract: three joined tests.
-use borrow.Author.Rules.{rules}
 use Rattle.choice.proofs.all_four.Goals as goal
 
 pub returns : goal.returns
