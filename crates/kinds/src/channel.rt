@@ -5,7 +5,7 @@ ghost use Rattle.rules.specs.Floats.{mean_of};
 ghost use Rattle.kinds.specs.Quads.{Pairs, Channel};
 
 // The four texels that one takes the place of.
-#[derive(Drop)]
+#[derive(Clone, Copy)]
 pub struct Quad {
     pub p00: u32,
     pub p10: u32,
@@ -14,7 +14,7 @@ pub struct Quad {
 }
 
 // The same channel of four texels.
-#[derive(Drop)]
+#[derive(Clone, Copy)]
 pub struct Bytes {
     pub a: u8,
     pub b: u8,

@@ -14,7 +14,7 @@ use places::blend::{blend, blend_alpha, weigh};
 use rules::{Directions, Lanes, Mode, Plane, Weights, Wholes};
 
 // The products of four lanes' weights.
-#[derive(Drop)]
+#[derive(Clone, Copy)]
 struct FourWeights {
     a: Weights,
     b: Weights,

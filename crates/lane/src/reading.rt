@@ -4,7 +4,7 @@ ghost use Rattle.std.specs.Prelude.{◌≡◌};
 use rules::Lanes;
 
 // Four places in the chain.
-#[derive(Drop)]
+#[derive(Clone, Copy)]
 pub struct Four {
     pub a: usize,
     pub b: usize,
@@ -13,7 +13,7 @@ pub struct Four {
 }
 
 // The places of four bilinear lookups and their weights, the lanes side by side.
-#[derive(Drop)]
+#[derive(Clone, Copy)]
 pub struct FourCorners {
     pub p00: Four,
     pub p10: Four,

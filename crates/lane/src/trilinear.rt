@@ -18,7 +18,7 @@ use places::cube::{lerp, pairing};
 use rules::{Directions, Lanes, Spot, Spots, Wholes};
 
 // The lower and the upper levels of four lanes, and how far each lane lies between its two.
-#[derive(Drop)]
+#[derive(Clone, Copy)]
 pub struct TwoLevels {
     pub low: Wholes,
     pub high: Wholes,
@@ -57,7 +57,7 @@ pub fn two_levels(levels: Lanes, top: usize) -> TwoLevels
 }
 
 // The places of four lanes at the lower levels, and at the upper ones.
-#[derive(Drop)]
+#[derive(Clone, Copy)]
 pub struct Eight {
     pub low: Four,
     pub high: Four,

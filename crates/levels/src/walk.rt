@@ -8,7 +8,7 @@ ghost use Rattle.levels.specs.Starts.{Walked};
 use choice::{larger, smaller};
 
 // How far a walk is: the next level, where it starts, and the larger side there, 0 above the top level.
-#[derive(Drop)]
+#[derive(Clone, Copy)]
 struct Walk {
     level: usize,
     at: u32,

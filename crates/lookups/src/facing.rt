@@ -38,7 +38,7 @@ fn spots(a: Spot, b: Spot, c: Spot, d: Spot) -> Spots
 }
 
 // Where four directions meet the cube, and 7 where one of them is not taken, else 0.
-#[derive(Drop)]
+#[derive(Clone, Copy)]
 pub struct Meetings {
     pub spots: Spots,
     pub refusal: u32,

@@ -9,7 +9,7 @@ use crate::modes::mode_of;
 use lane::plane::plane;
 use rules::{Mode, Plane, Sampler};
 
-#[derive(Drop)]
+#[derive(Clone, Copy)]
 pub struct Wrapped {
     pub plane: Plane,
     pub s: Mode,
@@ -17,7 +17,7 @@ pub struct Wrapped {
 }
 
 // The same, or the refusal.
-#[derive(Drop)]
+#[derive(Clone, Copy)]
 pub enum Lookup {
     In(Wrapped),
     Refused(u32),

@@ -14,7 +14,7 @@ use lane::reading::Four;
 use rules::{Alpha, Colour, Lanes, Sampler};
 
 // Where four lanes read, at the level that the steps ask for; or the refusal.
-#[derive(Drop)]
+#[derive(Clone, Copy)]
 pub enum Places {
     At(Four),
     Refused(u32),

@@ -33,7 +33,7 @@ pub fn nearest_four(mode: Mode, u: Lanes, width: usize) -> Wholes
 }
 
 // Where a coordinate stands: its texel number, the next, and how far it lies above.
-#[derive(Drop)]
+#[derive(Clone, Copy)]
 struct Stand {
     here: f32,
     next: f32,
@@ -41,7 +41,7 @@ struct Stand {
 }
 
 // Four lanes' texel numbers along a side, the next ones, and how far each lane lies above.
-#[derive(Drop)]
+#[derive(Clone, Copy)]
 pub struct Axes {
     pub first: Wholes,
     pub second: Wholes,

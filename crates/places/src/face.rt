@@ -8,7 +8,7 @@ use choice::{both, either, pick, pick_face};
 use rules::Spot;
 
 // Where a direction meets the cube, and whether it is a direction that is taken.
-#[derive(Drop)]
+#[derive(Clone, Copy)]
 pub struct Meeting {
     pub spot: Spot,
     pub taken: bool,

@@ -3,14 +3,14 @@ ghost use Rattle.std.specs.Prelude.{◌≡◌, ◌≤◌, min, max, length, take
 ghost use Rattle.ranges.specs.Scans.{Widened, WithTexel, RangeIs};
 
 // The smallest and the largest of some bytes.
-#[derive(Drop)]
+#[derive(Clone, Copy)]
 pub struct Ends {
     pub low: u8,
     pub high: u8,
 }
 
 // Of each channel.
-#[derive(Drop)]
+#[derive(Clone, Copy)]
 pub struct Range {
     pub red: Ends,
     pub green: Ends,

@@ -31,7 +31,7 @@ fn second(y: usize, h: usize) -> usize
 }
 
 // Where the two rows of a level start that a row of the next is made from.
-#[derive(Drop)]
+#[derive(Clone, Copy)]
 pub struct Above {
     pub first: usize,
     pub second: usize,

@@ -2,7 +2,7 @@
 #![tactic(auto)]
 
 // Four numbers that travel together, one a lane.
-#[derive(Drop)]
+#[derive(Clone, Copy)]
 pub struct Lanes {
     pub a: f32,
     pub b: f32,
@@ -11,7 +11,7 @@ pub struct Lanes {
 }
 
 // Four whole numbers, one a lane.
-#[derive(Drop)]
+#[derive(Clone, Copy)]
 pub struct Wholes {
     pub a: u32,
     pub b: u32,
@@ -20,7 +20,7 @@ pub struct Wholes {
 }
 
 // Four directions; also four colours, red, green and blue.
-#[derive(Drop)]
+#[derive(Clone, Copy)]
 pub struct Directions {
     pub x: Lanes,
     pub y: Lanes,
@@ -28,21 +28,21 @@ pub struct Directions {
 }
 
 // The wrap codes along u and along v.
-#[derive(Drop)]
+#[derive(Clone, Copy)]
 pub struct Sampler {
     pub wrap_s: u32,
     pub wrap_t: u32,
 }
 
 // A place in a picture, or the sides of a part of it.
-#[derive(Drop)]
+#[derive(Clone, Copy)]
 pub struct Pair {
     pub x: u32,
     pub y: u32,
 }
 
 // Where a level starts and its sides, with the chain's texel count.
-#[derive(Drop)]
+#[derive(Clone, Copy)]
 pub enum Sizes {
     Level {
         start: usize,
@@ -54,96 +54,96 @@ pub enum Sizes {
 }
 
 // How many texels the chain has, or were written.
-#[derive(Drop)]
+#[derive(Clone, Copy)]
 pub enum Filled {
     Texels(usize),
     Refused(u32),
 }
 
 // How many bytes were written.
-#[derive(Drop)]
+#[derive(Clone, Copy)]
 pub enum Written {
     Bytes(usize),
     Refused(u32),
 }
 
 // A level number.
-#[derive(Drop)]
+#[derive(Clone, Copy)]
 pub enum Level {
     At(u32),
     Refused(u32),
 }
 
 // The colours of four lanes.
-#[derive(Drop)]
+#[derive(Clone, Copy)]
 pub enum Colour {
     Rgb(Directions),
     Refused(u32),
 }
 
 // One number for each of four lanes.
-#[derive(Drop)]
+#[derive(Clone, Copy)]
 pub enum Alpha {
     Of(Lanes),
     Refused(u32),
 }
 
 // Where four directions meet the cube: places on the faces, and the faces.
-#[derive(Drop)]
+#[derive(Clone, Copy)]
 pub struct Spots {
     pub u: Lanes,
     pub v: Lanes,
     pub faces: Wholes,
 }
 
-#[derive(Drop)]
+#[derive(Clone, Copy)]
 pub enum Facing {
     On(Spots),
     Refused(u32),
 }
 
 // The three wrap modes.
-#[derive(Drop)]
+#[derive(Clone, Copy)]
 pub enum Mode {
     Repeat,
     Clamp,
     Mirror,
 }
 
-#[derive(Drop)]
+#[derive(Clone, Copy)]
 pub enum Wrap {
     By(Mode),
     Refused(u32),
 }
 
 // The two packing modes.
-#[derive(Drop)]
+#[derive(Clone, Copy)]
 pub enum Packing {
     Truncating,
     Nearest,
 }
 
-#[derive(Drop)]
+#[derive(Clone, Copy)]
 pub enum PackingCode {
     By(Packing),
     Refused(u32),
 }
 
 // Whether a level, or each level of a chain, follows from the one before; else the first wrong texel's place.
-#[derive(Drop)]
+#[derive(Clone, Copy)]
 pub enum Verdict {
     Follows,
     WrongAt(usize),
 }
 
-#[derive(Drop)]
+#[derive(Clone, Copy)]
 pub enum Checked {
     Of(Verdict),
     Refused(u32),
 }
 
 // A level within a chain: where it starts, and its faces and their sides.
-#[derive(Drop)]
+#[derive(Clone, Copy)]
 pub struct Plane {
     pub start: usize,
     pub faces: usize,
@@ -152,7 +152,7 @@ pub struct Plane {
 }
 
 // One lane's colour.
-#[derive(Drop)]
+#[derive(Clone, Copy)]
 pub struct Rgb {
     pub r: f32,
     pub g: f32,
@@ -160,7 +160,7 @@ pub struct Rgb {
 }
 
 // Two texel numbers along a side, wrapped, and how far the coordinate lies from the first to the second.
-#[derive(Drop)]
+#[derive(Clone, Copy)]
 pub struct Axis {
     pub first: usize,
     pub second: usize,
@@ -168,7 +168,7 @@ pub struct Axis {
 }
 
 // The four places of a bilinear lookup, and the two weights.
-#[derive(Drop)]
+#[derive(Clone, Copy)]
 pub struct Corners {
     pub p00: usize,
     pub p10: usize,
@@ -179,7 +179,7 @@ pub struct Corners {
 }
 
 // The four products of the weights.
-#[derive(Drop)]
+#[derive(Clone, Copy)]
 pub struct Weights {
     pub w00: f32,
     pub w10: f32,
@@ -188,7 +188,7 @@ pub struct Weights {
 }
 
 // Where one direction meets the cube.
-#[derive(Drop)]
+#[derive(Clone, Copy)]
 pub struct Spot {
     pub face: u32,
     pub u: f32,
@@ -196,7 +196,7 @@ pub struct Spot {
 }
 
 // The two levels of a trilinear lookup, and how far the fractional level lies between them.
-#[derive(Drop)]
+#[derive(Clone, Copy)]
 pub struct Pairing {
     pub low: usize,
     pub high: usize,
@@ -204,7 +204,7 @@ pub struct Pairing {
 }
 
 // One direction.
-#[derive(Drop)]
+#[derive(Clone, Copy)]
 pub struct Vector {
     pub x: f32,
     pub y: f32,
@@ -212,7 +212,7 @@ pub struct Vector {
 }
 
 // A number for each of the four basis functions.
-#[derive(Drop)]
+#[derive(Clone, Copy)]
 pub struct Basis {
     pub constant: f32,
     pub y: f32,
@@ -221,7 +221,7 @@ pub struct Basis {
 }
 
 // A colour for each of the four: the irradiance coefficients, or the sums that these are made of.
-#[derive(Drop)]
+#[derive(Clone, Copy)]
 pub struct Sh4 {
     pub constant: Rgb,
     pub y: Rgb,
@@ -230,7 +230,7 @@ pub struct Sh4 {
 }
 
 // The irradiance coefficients of a cubemap.
-#[derive(Drop)]
+#[derive(Clone, Copy)]
 pub enum Irradiance {
     Of(Sh4),
     Refused(u32),

@@ -10,7 +10,7 @@ pub use file::parse;
 pub use listing::list;
 
 // What the header of a file says of its picture.
-#[derive(Drop)]
+#[derive(Clone, Copy)]
 pub struct Header {
     pub kind: u32,
     pub width: u32,
@@ -18,7 +18,7 @@ pub struct Header {
 }
 
 // A file: its header, or the number that refuses it.
-#[derive(Drop)]
+#[derive(Clone, Copy)]
 pub enum Parsed {
     Picture(Header),
     Refused(u32),
