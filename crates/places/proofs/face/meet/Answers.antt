@@ -1,0 +1,20 @@
+-- `places::face::meet` meets its contract: the magnitudes' comparisons say the same as the paper's words, and a direction that is taken meets
+-- the cube.
+use mathlib.Core.Path.{sym, subst}
+use lib.Dec.{T}
+use Rattle.places.proofs.Taken.{direction-words}
+use Rattle.places.proofs.Spots.{on-cube}
+use Rattle.places.proofs.face.meet.Goals as goal
+
+pub spot-requires : goal.spot-requires
+spot-requires c = (c.magnitude-ax.ensures, c.magnitude-ay.ensures, c.magnitude-az.ensures)
+
+pub returns : goal.returns
+returns c =
+    let x = c.args.x in
+    let y = c.args.y in
+    let z = c.args.z in (
+      c.spot.ensures,
+      rw (c.sizes_taken.ensures, c.magnitude-az.ensures, c.magnitude-ay.ensures, c.magnitude-ax.ensures) (direction-words x y z),
+      on-cube x y z (subst T (sym c.well_formed.0.1) tt) (subst T (sym c.well_formed.1.1.0.1) tt),
+    )

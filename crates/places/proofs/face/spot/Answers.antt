@@ -1,0 +1,30 @@
+-- `places::face::spot` meets its contract: the choice value by value is the choice of the place.
+use Rattle.places.proofs.Spots.{spot-chosen}
+use Rattle.places.proofs.face.spot.Goals as goal
+
+pub returns : goal.returns
+returns c =
+    rw (
+      c.on_face-2.ensures,
+      c.on_face.ensures,
+      c.pick_face-2.ensures,
+      c.pick_face.ensures,
+      c.odd-3.ensures.0,
+      c.odd-2.ensures.0,
+      c.odd.ensures.0,
+      c.pick-major.ensures,
+      c.pick-3.ensures,
+      c.pick-p.ensures,
+      c.pick-2.ensures,
+      c.sign-3.ensures,
+      c.pick-q.ensures,
+      c.pick.ensures,
+      c.sign-2.ensures,
+      c.sign.ensures,
+      c.both-on_y.ensures,
+      c.both-on_x.ensures,
+      c.requires.0,
+      c.requires.1,
+      c.requires.2,
+    )
+    (spot-chosen c.args.x c.args.y c.args.z)

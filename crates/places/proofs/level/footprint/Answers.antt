@@ -1,0 +1,16 @@
+-- `places::level::footprint` meets its contract: the same sums.
+use mathlib.Core.Path.{refl}
+use native.Mathlib.Omega.{arith}
+use Rattle.rules.specs.Footprint.{footprint_of}
+use Rattle.texel.proofs.Coord.{side-float}
+use Rattle.places.proofs.level.footprint.Goals as goal
+
+pub int_to_float-wide : goal.int_to_float-wide
+int_to_float-wide c = side-float _ (omega arith)
+
+pub int_to_float-high : goal.int_to_float-high
+int_to_float-high c = side-float _ (omega arith)
+
+pub returns : goal.returns
+unfolding footprint_of
+returns c = refl
