@@ -1,0 +1,13 @@
+-- `reduce::row::put` meets its contract. The invariant: i texels stand from `to` on. The measure is what is left.
+use mathlib.Core.Path.{refl}
+use Prim.Native.Nat.{◌≤◌, ◌-◌}
+use native.Mathlib.Omega.{arith}
+use lib.ListN.{get_or}
+use Rattle.kinds.proofs.Runs.{Over, over_first, over-set, over-end}
+use Rattle.reduce.proofs.row.put.Given as goal
+
+abbrev pub invariant-loop-i : goal.invariant-loop-i
+invariant-loop-i l = (l.i ≤ l.n) × Over l.to l.initial.s l.i (λ k. get_or l.o k 0) l.s
+
+abbrev pub decreases-loop-i : goal.decreases-loop-i
+decreases-loop-i l = l.n - l.i
