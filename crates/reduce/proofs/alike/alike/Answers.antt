@@ -1,6 +1,5 @@
 -- `reduce::alike::alike` meets its contract: where none differs all n stand there.
 use native.Mathlib.Omega.{arith}
-use borrow.Author.Rules.{rules}
 use Rattle.kinds.proofs.Runs.{over-is}
 use Rattle.reduce.proofs.Standing.{right-all}
 use Rattle.reduce.proofs.alike.alike.Goals as goal

@@ -1,8 +1,6 @@
 use mathlib.Core.Path.{◌≡◌, sym}
-use Prim.Native.Nat.{◌≤◌, ◌-◌}
 use native.Mathlib.Omega.{arith}
-use lib.ListN.{get_or}
-use Rattle.kinds.proofs.Runs.{Over, over_first}
+use Rattle.kinds.proofs.Runs.{over_first}
 use Rattle.reduce.proofs.Standing.{stands-more, right-all, right-stop}
 use Rattle.reduce.proofs.alike.count_alike.Goals as goal
 

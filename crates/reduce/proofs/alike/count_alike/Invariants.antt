@@ -1,10 +1,7 @@
 -- `reduce::alike::count_alike` meets its contract. The invariant: the first i stand there. The measure is what is left.
-use mathlib.Core.Path.{◌≡◌, sym}
 use Prim.Native.Nat.{◌≤◌, ◌-◌}
-use native.Mathlib.Omega.{arith}
 use lib.ListN.{get_or}
-use Rattle.kinds.proofs.Runs.{Over, over_first}
-use Rattle.reduce.proofs.Standing.{stands-more, right-all, right-stop}
+use Rattle.kinds.proofs.Runs.{Over}
 use Rattle.reduce.proofs.alike.count_alike.Given as goal
 
 abbrev pub invariant-loop-i : goal.invariant-loop-i

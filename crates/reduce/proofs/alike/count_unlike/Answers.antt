@@ -1,9 +1,6 @@
-use mathlib.Core.Path.{◌≡◌, sym}
-use Prim.Native.Nat.{◌≤◌, ◌-◌}
+use mathlib.Core.Path.{sym}
 use native.Mathlib.Omega.{arith}
-use borrow.Author.Rules.{rules}
-use lib.ListN.{get_or}
-use Rattle.kinds.proofs.Runs.{Over, over_first, over-end}
+use Rattle.kinds.proofs.Runs.{over_first, over-end}
 use Rattle.reduce.proofs.Standing.{stands-more}
 use Rattle.reduce.proofs.alike.count_unlike.Goals as goal
 

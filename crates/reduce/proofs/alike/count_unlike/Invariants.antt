@@ -1,12 +1,9 @@
 -- `reduce::alike::count_unlike` meets its contract. The invariant: no more differ than were looked at, and where none does all of them
 -- stand there. The measure is what is left.
-use mathlib.Core.Path.{◌≡◌, sym}
+use mathlib.Core.Path.{◌≡◌}
 use Prim.Native.Nat.{◌≤◌, ◌-◌}
-use native.Mathlib.Omega.{arith}
-use borrow.Author.Rules.{rules}
 use lib.ListN.{get_or}
-use Rattle.kinds.proofs.Runs.{Over, over_first, over-end}
-use Rattle.reduce.proofs.Standing.{stands-more}
+use Rattle.kinds.proofs.Runs.{Over}
 use Rattle.reduce.proofs.alike.count_unlike.Given as goal
 
 abbrev pub invariant-loop-i : goal.invariant-loop-i

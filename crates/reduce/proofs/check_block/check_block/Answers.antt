@@ -8,26 +8,28 @@ use Rattle.rules.specs.Sizes.{half}
 use Rattle.rules.specs.Reducing.{reduce_of}
 use Rattle.reduce.proofs.Standing.{block-right}
 use Rattle.reduce.proofs.check_block.check_block.Goals as goal
-use Rattle.reduce.proofs.check_block.check_block.Goals.{After-slice_known-1}
+use Rattle.reduce.proofs.check_block.check_block.Goals.{Start}
 
 -- the small level's sides
-few : (c : goal.After-slice_known-1) → (2 * c.args.m ≤ 512) × (c.args.w ≤ 512)
+few : (c : goal.Start) → (2 * c.args.m ≤ 512) × (c.args.w ≤ 512)
 few c =
     let a = c.args in
     let some : 1 ≤ 2 * a.m = omega arith in
     (omega (arith, mul-le-mul_left (2 * a.m) c.requires.le_w.0), omega (arith, mul-le-mul_right a.w some))
 
 pub overflow_mul-n : goal.overflow_mul-n
-overflow_mul-n c = omega (arith, few c)
+overflow_mul-n c = omega (arith, few (goal.at.overflow_mul-n c).Start)
 
 pub overflow_mul-m : goal.overflow_mul-m
-overflow_mul-m c = omega (arith, few (goal.at.overflow_mul-m c).After-slice_known-1)
+overflow_mul-m c = omega (arith, few (goal.at.overflow_mul-m c).Start)
 
-pub write_next-requires : goal.write_next-requires
-write_next-requires c =
-    let a = c.args in
-    let high : half (2 * a.m) ≡ a.m = omega arith in
-    rw (one-mul (2 * a.m), high, one-mul a.m) (omega (arith, few (goal.at.write_next-requires c).After-slice_known-1), omega arith)
+pub write_next-requires-clause-sides : goal.write_next-requires-clause-sides
+write_next-requires-clause-sides c = let n = few (goal.at.write_next-requires-clause-sides c).Start in omega arith
+
+pub write_next-requires-clause-w_in_bounds : goal.write_next-requires-clause-w_in_bounds
+write_next-requires-clause-w_in_bounds c =
+    let high : half (2 * c.args.m) ≡ c.args.m = omega arith in
+    rw (one-mul (2 * c.args.m), high, one-mul c.args.m) (omega arith)
 
 pub overflow_mul-m-2 : goal.overflow_mul-m-2
 overflow_mul-m-2 c = rw c.halved.ensures (omega arith)

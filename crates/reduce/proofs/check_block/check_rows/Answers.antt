@@ -3,7 +3,6 @@ use mathlib.Core.Path.{◌≡◌, sym}
 use Prim.Native.Nat.{◌*◌}
 use native.Mathlib.Nat.{one-mul}
 use native.Mathlib.Omega.{arith}
-use borrow.Author.Rules.{rules}
 use Rattle.rules.specs.Sizes.{half}
 use Rattle.rules.specs.Reducing.{reduce_of}
 use Rattle.reduce.proofs.Standing.{right-ext, first-row}

@@ -3,7 +3,6 @@ use mathlib.Core.Path.{◌≡◌, refl}
 use Prim.Native.Nat.{◌*◌, ◌%◌, ◌<◌}
 use native.Mathlib.Nat.{mod-lt}
 use native.Mathlib.Omega.{arith}
-use borrow.Author.Rules.{rules}
 use Rattle.rules.specs.Sizes.{half}
 use Rattle.reduce.proofs.Runs.{run-face, run-even}
 use Rattle.reduce.proofs.check_block.in_a_run.Goals as goal

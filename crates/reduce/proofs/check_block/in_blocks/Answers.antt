@@ -1,6 +1,5 @@
 -- `reduce::check_block::in_blocks` meets its contract: one test after the other.
 use native.Mathlib.Omega.{arith}
-use borrow.Author.Rules.{rules}
 use borrow.Author.Tests.{ltb-true}
 use Rattle.reduce.proofs.check_block.in_blocks.Goals as goal
 

@@ -5,7 +5,6 @@ use mathlib.Core.Bool.{false≢true}
 use Prim.Native.Nat.{ℕ, ◌+◌, ◌*◌, ◌/◌, ◌≤◌, ◌<◌}
 use native.Mathlib.Nat.{le_trans, mul_assoc, mul_left_comm, mul-add, mul-le-mul, mul-le-mul_right, div-mul-le_self, le-div_iff_mul-le}
 use native.Mathlib.Omega.{arith}
-use borrow.Author.Rules.{rules}
 use Rattle.rules.specs.Sizes.{half}
 use Rattle.reduce.proofs.Bounds.{half-most}
 use Rattle.reduce.proofs.Runs.{run-one, run-less}

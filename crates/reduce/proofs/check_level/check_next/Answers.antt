@@ -1,16 +1,14 @@
-use mathlib.Core.Path.{◌≡◌, refl}
-use Prim.Native.Nat.{ℕ, ◌+◌, ◌*◌, ◌-◌, ◌≤◌, ◌<◌}
+use mathlib.Core.Path.{refl}
+use Prim.Native.Nat.{ℕ, ◌+◌, ◌*◌, ◌≤◌, ◌<◌}
 use native.Mathlib.Nat.{mul-le-mul}
 use native.Mathlib.Omega.{arith}
 use mir.Syntax.{w64}
 use mir.Val.{Fits}
-use borrow.Author.Rules.{rules}
 use lib.ListN.{length}
 use Rattle.rules.specs.Sizes.{half}
-use Rattle.rules.specs.Reducing.{reduce_of}
 use Rattle.reduce.specs.Levels.{Run}
 use Rattle.reduce.proofs.Bounds.{half-most}
-use Rattle.reduce.proofs.Levels.{Rows, Places, rows-first, rows-places}
+use Rattle.reduce.proofs.Levels.{Places, rows-first, rows-places}
 use Rattle.reduce.proofs.StandingLevels.{rows_right, room_for, numbers, sources, rows-go, rows-stop}
 use Rattle.reduce.proofs.check_level.check_next.Goals as goal
 use Rattle.reduce.proofs.check_level.check_next.Goals.{After-rows_above-r, After-together-m}
@@ -71,7 +69,7 @@ pub check_rows-right-requires : goal.check_rows-right-requires
 check_rows-right-requires c =
     let r = run (goal.at.check_rows-right-requires c).After-together-m in
     let rows = c.rows_above-r.ensures in
-    let fits = c.together-m.ensures in  record {
+    let fits = c.together-m.ensures in record {
       le_w = omega (arith, c.requires, r.some, rows, places (goal.at.check_rows-right-requires c).After-rows_above-r, standing (goal.at.check_rows-right-requires c).After-rows_above-r, c.loop-y.invariant.0);
       r1_value = (
         λ yes.

@@ -2,7 +2,6 @@
 use mathlib.Core.Path.{ap, ◌∙◌}
 use mathlib.Core.Bool.{false≢true}
 use native.Mathlib.Omega.{arith}
-use borrow.Author.Rules.{rules}
 use Rattle.rules.specs.Reducing.{linear_of}
 use Rattle.kinds.proofs.Codes.{of-linear}
 use Rattle.reduce.proofs.check_row.by_wholes.Goals as goal

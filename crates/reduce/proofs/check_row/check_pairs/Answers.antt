@@ -1,6 +1,4 @@
 -- `reduce::check_row::check_pairs` meets its contract: told by whole numbers, or made and compared.
-use native.Mathlib.Omega.{arith}
-use borrow.Author.Rules.{rules}
 use Rattle.rules.specs.Reducing.{reduce_of}
 use Rattle.reduce.proofs.Standing.{even-right}
 use Rattle.reduce.proofs.check_row.check_pairs.Goals as goal

@@ -1,6 +1,5 @@
 -- `reduce::check_row::check_part` meets its contract: what is made of copies is made of the texels themselves.
 use native.Mathlib.Omega.{arith}
-use borrow.Author.Rules.{rules}
 use Rattle.rules.specs.Reducing.{reduce_of}
 use Rattle.reduce.proofs.Standing.{part_right}
 use Rattle.reduce.proofs.check_row.check_part.Goals as goal

@@ -1,7 +1,6 @@
 -- `reduce::check_row::check_row` meets its contract: sources one wide, or wider.
 use mathlib.Core.Path.{◌≡◌}
 use native.Mathlib.Omega.{arith}
-use borrow.Author.Rules.{rules}
 use Rattle.rules.specs.Sizes.{half}
 use Rattle.rules.specs.Reducing.{reduce_of}
 use Rattle.reduce.proofs.Standing.{wide-right}

@@ -1,15 +1,11 @@
 -- `reduce::check_row::check_whole` meets its contract. The invariant: the first x texels of the row stand there. The measure is what is
 -- left.
-use mathlib.Core.Path.{◌≡◌, refl}
-use Prim.Native.Nat.{◌+◌, ◌-◌, ◌≤◌, ◌<◌}
-use native.Mathlib.Omega.{arith}
-use borrow.Author.Rules.{rules}
+use mathlib.Core.Path.{◌≡◌}
+use Prim.Native.Nat.{◌-◌, ◌≤◌}
 use lib.ListN.{length, drop}
 use Rattle.rules.specs.Reducing.{reduce_of}
-use Rattle.kinds.proofs.Runs.{Over, over_first}
+use Rattle.kinds.proofs.Runs.{Over}
 use Rattle.kinds.specs.Runs.{pair_of}
-use Rattle.reduce.specs.Right.{Right}
-use Rattle.reduce.proofs.Standing.{right-all, right-turn}
 use Rattle.reduce.proofs.check_row.check_whole.Given as goal
 
 abbrev pub invariant-loop-x : goal.invariant-loop-x

@@ -1,7 +1,6 @@
 -- `reduce::check_row::told_by_wholes` meets its contract: where none differs, all m stand there.
 use mathlib.Core.Bool.{false≢true}
 use native.Mathlib.Omega.{arith}
-use borrow.Author.Rules.{rules}
 use borrow.Author.Tests.{eqb-true}
 use Rattle.rules.specs.declared.Packing.TheVariants.{Nearest}
 use Rattle.rules.specs.Reducing.{linear_of}

@@ -3,7 +3,6 @@ use mathlib.Core.Path.{refl}
 use Prim.Native.Nat.{◌+◌, ◌*◌, ◌/◌, ◌%◌, ◌≤◌, ◌<◌}
 use native.Mathlib.Nat.{mod-lt}
 use native.Mathlib.Omega.{arith}
-use borrow.Author.Rules.{rules}
 use Rattle.reduce.proofs.Bounds.{rows_before, row-start}
 use Rattle.reduce.proofs.level.rows_above.Goals as goal
 use Rattle.reduce.proofs.level.rows_above.Goals.{After-second-j}

@@ -1,7 +1,6 @@
 -- `reduce::level::size` meets its contract: no product wraps.
 use native.Mathlib.Omega.{arith}
 use Rattle.reduce.proofs.Bounds.{rows, texels}
-use borrow.Author.Rules.{rules}
 use Rattle.reduce.proofs.level.size.Goals as goal
 
 pub overflow_mul-result : goal.overflow_mul-result

@@ -1,10 +1,7 @@
-use Prim.Native.Nat.{◌*◌, ◌-◌}
 use native.Mathlib.Omega.{arith}
-use borrow.Author.Rules.{rules}
-use Rattle.rules.specs.Reducing.{reduce_of}
 use native.Mathlib.Nat.{mul-le-mul}
 use Rattle.reduce.proofs.Bounds.{half-most}
-use Rattle.reduce.proofs.Levels.{Rows, rows-first, rows-places, rows_more, rows_end}
+use Rattle.reduce.proofs.Levels.{rows-first, rows-places, rows_more, rows_end}
 use Rattle.reduce.proofs.level.write_next.Goals as goal
 
 pub overflow_mul-rows : goal.overflow_mul-rows

@@ -1,11 +1,7 @@
 -- `reduce::level::write_next` meets its contract. The invariant: y rows of all faces are written. The measure is the rows left.
 use Prim.Native.Nat.{◌*◌, ◌-◌}
-use native.Mathlib.Omega.{arith}
-use borrow.Author.Rules.{rules}
 use Rattle.rules.specs.Reducing.{reduce_of}
-use native.Mathlib.Nat.{mul-le-mul}
-use Rattle.reduce.proofs.Bounds.{half-most}
-use Rattle.reduce.proofs.Levels.{Rows, rows-first, rows-places, rows_more, rows_end}
+use Rattle.reduce.proofs.Levels.{Rows}
 use Rattle.reduce.proofs.level.write_next.Given as goal
 
 abbrev pub invariant-loop-y : goal.invariant-loop-y

@@ -1,8 +1,6 @@
 use mathlib.Core.Path.{refl}
-use Prim.Native.Nat.{◌≤◌, ◌-◌}
 use native.Mathlib.Omega.{arith}
-use lib.ListN.{get_or}
-use Rattle.kinds.proofs.Runs.{Over, over_first, over-set, over-end}
+use Rattle.kinds.proofs.Runs.{over_first, over-set, over-end}
 use Rattle.reduce.proofs.row.put.Goals as goal
 
 pub loop-i-init : goal.loop-i-init

@@ -1,9 +1,7 @@
 -- `reduce::row::put` meets its contract. The invariant: i texels stand from `to` on. The measure is what is left.
-use mathlib.Core.Path.{refl}
 use Prim.Native.Nat.{◌≤◌, ◌-◌}
-use native.Mathlib.Omega.{arith}
 use lib.ListN.{get_or}
-use Rattle.kinds.proofs.Runs.{Over, over_first, over-set, over-end}
+use Rattle.kinds.proofs.Runs.{Over}
 use Rattle.reduce.proofs.row.put.Given as goal
 
 abbrev pub invariant-loop-i : goal.invariant-loop-i

@@ -1,5 +1,4 @@
 -- `reduce::row::srgb_texel` meets its contract.
-use borrow.Author.Rules.{rules}
 use Rattle.rules.specs.Reducing.{srgb_of}
 use Rattle.reduce.proofs.Rows.{two-columns}
 use Rattle.reduce.proofs.row.srgb_texel.Goals as goal

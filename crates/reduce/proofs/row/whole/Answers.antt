@@ -1,7 +1,5 @@
 use mathlib.Core.Path.{◌∙◌}
-use mathlib.Core.Logic.{⊎_elim}
-use Prim.Native.Nat.{◌+◌, ◌-◌, ◌≤◌}
-use native.Mathlib.Nat.{pos_of_ne-zero}
+use Prim.Native.Nat.{◌+◌, ◌≤◌}
 use native.Mathlib.Omega.{arith}
 use lib.ListN.{drop}
 use Rattle.kinds.specs.Runs.{pair_of}
@@ -10,7 +8,7 @@ use Rattle.kinds.proofs.Runs.{Over, over_first, over-end}
 use Rattle.kinds.proofs.Codes.{of-srgb}
 use Rattle.reduce.proofs.Rows.{row-turn}
 use Rattle.reduce.proofs.row.whole.Goals as goal
-use Rattle.reduce.proofs.row.whole.Goals.{Joined-kind}
+use Rattle.reduce.proofs.row.whole.Goals.{Joined-kind, in-0, in_default}
 
 pub loop-x-init : goal.loop-x-init
 loop-x-init c = (omega arith, over_first _ _ _ (omega arith))
@@ -43,10 +41,10 @@ pub overflow_add-to-in_default : goal.overflow_add-to-in_default
 overflow_add-to-in_default c = omega arith
 
 pub part-m-requires : goal.part-m-requires
-part-m-requires c =  record {
-      kind_nonzero = pos_of_ne-zero c.in_default.in_default-own.rest.1;
-      n_bound = omega arith;
-    }
+part-m-requires c = record {
+  kind_nonzero = omega arith;
+  n_bound = omega arith;
+}
 
 -- what a turn made, by either arm
 made : (c : goal.Joined-kind)
@@ -55,16 +53,16 @@ made : (c : goal.Joined-kind)
 made c =
     let a = c.args in
     let turn = row-turn (reduce_of a.kind a.packing) a.to a.r0 a.r1 a.n c.loop-x.x c.match-kind.m a.s.now c.loop-x.s c.match-kind.s c.loop-x.invariant.1 (omega arith) (omega arith) (omega arith) in
-    ⊎_elim
-    (λ w.
-    let e = w.6 in
-    let m = w.2.ensures.0 in
-    (omega arith, omega arith, turn (omega arith) (w.5 ∙ rw (e, of-srgb a.kind a.packing w.0.keys1) w.2.ensures.1)))
-    (λ w.
-    let e = w.6 in
-    let m = w.2.ensures.0 in
-    (omega arith, omega arith, turn (omega arith) (w.5 ∙ rw e w.2.ensures.1)))
-    c.match-kind.branch
+    elim c.match-kind.branch [
+      | in-0 w ↦
+          let e = w.m-is in
+          let m = w.srgb_part-m.ensures.count in
+          (omega arith, omega arith, turn (omega arith) (w.s-is ∙ rw (e, of-srgb a.kind a.packing w.in-0.is) w.srgb_part-m.ensures.s_after))
+      | in_default w ↦
+          let e = w.m-is in
+          let m = w.part-m.ensures.count in
+          (omega arith, omega arith, turn (omega arith) (w.s-is ∙ rw e w.part-m.ensures.s_after))
+    ]
 
 pub overflow_add-x : goal.overflow_add-x
 overflow_add-x c = let m = made (goal.at.overflow_add-x c).Joined-kind in omega arith

@@ -1,15 +1,9 @@
 -- `reduce::row::whole` meets its contract. The invariant: x texels of the row stand from `to` on. The measure is what is left.
-use mathlib.Core.Path.{◌∙◌}
-use mathlib.Core.Logic.{⊎_elim}
-use Prim.Native.Nat.{◌+◌, ◌-◌, ◌≤◌}
-use native.Mathlib.Nat.{pos_of_ne-zero}
-use native.Mathlib.Omega.{arith}
+use Prim.Native.Nat.{◌-◌, ◌≤◌}
 use lib.ListN.{drop}
 use Rattle.kinds.specs.Runs.{pair_of}
 use Rattle.rules.specs.Reducing.{reduce_of}
-use Rattle.kinds.proofs.Runs.{Over, over_first, over-end}
-use Rattle.kinds.proofs.Codes.{of-srgb}
-use Rattle.reduce.proofs.Rows.{row-turn}
+use Rattle.kinds.proofs.Runs.{Over}
 use Rattle.reduce.proofs.row.whole.Given as goal
 
 abbrev pub invariant-loop-x : goal.invariant-loop-x

@@ -2,7 +2,6 @@
 use native.Mathlib.Omega.{arith}
 use Rattle.rules.specs.Reducing.{reduce_of}
 use Rattle.reduce.proofs.Rows.{one-is, wide_is}
-use borrow.Author.Rules.{rules}
 use Rattle.reduce.proofs.row.write_row.Goals as goal
 
 pub returns-then-w-lt2 : goal.returns-then-w-lt2
