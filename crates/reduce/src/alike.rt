@@ -12,7 +12,7 @@ fn unlike(a: u32, b: u32) -> u32
 
 // How many of the first n of o differ from what stands at `at`. All n are looked at, so that they can be looked at several at once.
 fn count_unlike(n: usize, at: usize, o: &[u32], s: &[u32]) -> u32
-    requires { (n ≤ length o.now) × (at + n ≤ length s.now) × (n ≤ 512) }
+    requires { (n ≤ length o.now) × (at + n ≤ length s.now) × (n ≤ 128) }
     ensures { (result ≡ 0) → (s.now ≡ over at s.now n (λ i. get_or o.now i 0)) }
 {
     let mut count = 0u32;
@@ -41,7 +41,7 @@ fn count_alike(n: usize, at: usize, o: &[u32], s: &[u32]) -> usize
 
 // The same, one by one only where they are not all there.
 pub fn alike(n: usize, at: usize, o: &[u32], s: &[u32]) -> usize
-    requires { (n ≤ length o.now) × (at + n ≤ length s.now) × (n ≤ 512) }
+    requires { (n ≤ length o.now) × (at + n ≤ length s.now) × (n ≤ 128) }
     ensures { Right at s.now n (λ i. get_or o.now i 0) result }
 {
     if count_unlike(n, at, o, s) == 0 {

@@ -40,13 +40,13 @@ fn in_a_run(faces: usize, h: usize, y: usize) -> usize
     }
 }
 
-// How many rows from row y on are looked at together: in blocks, as many of a run as 512 texels hold with their sources.
+// How many rows from row y on are looked at together: in blocks, as many of a run as 384 texels hold with their sources.
 pub fn together(blocks: bool, faces: usize, w: usize, h: usize, y: usize) -> usize
     requires { Sides faces w h × (y < faces * half h) × ((blocks ≡ true) → (w < 100)) }
-    ensures { Run w h (half h) (faces * half h) y result × ((blocks ≡ false) → (result ≡ 1)) × ((blocks ≡ true) → (2 * result * w + result * half w ≤ 512)) }
+    ensures { Run w h (half h) (faces * half h) y result × ((blocks ≡ false) → (result ≡ 1)) × ((blocks ≡ true) → (2 * result * w + result * half w ≤ 384)) }
 {
     if blocks {
-        return least(in_a_run(faces, h, y), 512 / (2 * w + halved(w)));
+        return least(in_a_run(faces, h, y), 384 / (2 * w + halved(w)));
     }
     1
 }
@@ -62,8 +62,8 @@ fn check_block(
     s: &[u32],
     made: &mut [u32],
 ) -> usize
-    requires le_w { (1 ≤ w) × (1 ≤ m) × (2 * m * w + m * half w ≤ 512) }
-    requires w_bound { (r0 + 2 * m * w ≤ at) × (at + m * half w ≤ length s.now) × (512 ≤ length made.old) }
+    requires le_w { (1 ≤ w) × (1 ≤ m) × (2 * m * w + m * half w ≤ 384) }
+    requires w_bound { (r0 + 2 * m * w ≤ at) × (at + m * half w ≤ length s.now) × (640 ≤ length made.old) }
     ensures { Right at s.now (m * half w) (rows_of (reduce_of kind packing) w r0 (r0 + w) s.now) result }
 {
     let n = 2 * m * w;
@@ -85,8 +85,8 @@ pub fn check_rows(
     s: &[u32],
     made: &mut [u32],
 ) -> usize
-    requires le_w { (1 ≤ w) × (1 ≤ m) × (r0 + w ≤ at) × (r1 + w ≤ at) × (at + m * half w ≤ length s.now) × (512 ≤ length made.old) }
-    requires r1_value { ((blocks ≡ true) → (r1 ≡ r0 + w) × (r0 + 2 * m * w ≤ at) × (2 * m * w + m * half w ≤ 512)) × ((blocks ≡ false) → (m ≡ 1)) }
+    requires le_w { (1 ≤ w) × (1 ≤ m) × (r0 + w ≤ at) × (r1 + w ≤ at) × (at + m * half w ≤ length s.now) × (640 ≤ length made.old) }
+    requires r1_value { ((blocks ≡ true) → (r1 ≡ r0 + w) × (r0 + 2 * m * w ≤ at) × (2 * m * w + m * half w ≤ 384)) × ((blocks ≡ false) → (m ≡ 1)) }
     ensures { Right at s.now (m * half w) (rows_of (reduce_of kind packing) w r0 r1 s.now) result }
 {
     if blocks {

@@ -14,7 +14,7 @@ use crate::level::write_next;
 use crate::row::{least, put};
 use rules::Packing;
 
-// The m texels at `at`, against w texels of the rows above from r0 and from r1 on, 128 at most.
+// The m texels at `at`, against w texels of the rows above from r0 and from r1 on, 256 at most.
 fn check_part(
     kind: u32,
     packing: Packing,
@@ -26,8 +26,8 @@ fn check_part(
     s: &[u32],
     made: &mut [u32],
 ) -> usize
-    requires le_w { (1 ≤ w) × (w ≤ 128) × (m ≡ half w) }
-    requires w_bound { (r0 + w ≤ at) × (r1 + w ≤ at) × (at + m ≤ length s.now) × (512 ≤ length made.old) }
+    requires le_w { (1 ≤ w) × (w ≤ 256) × (m ≡ half w) }
+    requires w_bound { (r0 + w ≤ at) × (r1 + w ≤ at) × (at + m ≤ length s.now) × (640 ≤ length made.old) }
     ensures { Right at s.now m (held_of (reduce_of kind packing) w (drop r0 s.now) (drop r1 s.now)) result }
 {
     put(w, 0, &s[r0..], made);
@@ -60,7 +60,7 @@ fn told_by_wholes(
     at: usize,
     s: &[u32],
 ) -> bool
-    requires { (m ≤ 64) × (r0 + 2 * m ≤ at) × (r1 + 2 * m ≤ at) × (at + m ≤ length s.now) }
+    requires { (m ≤ 128) × (r0 + 2 * m ≤ at) × (r1 + 2 * m ≤ at) × (at + m ≤ length s.now) }
     ensures { (result ≡ true) → Right at s.now m (pair_of (reduce_of kind packing) (drop r0 s.now) (drop r1 s.now)) m }
 {
     if by_wholes(kind, packing) {
@@ -80,8 +80,8 @@ fn check_pairs(
     s: &[u32],
     made: &mut [u32],
 ) -> usize
-    requires le_m { (1 ≤ m) × (m ≤ 64) }
-    requires m_bound { (r0 + 2 * m ≤ at) × (r1 + 2 * m ≤ at) × (at + m ≤ length s.now) × (512 ≤ length made.old) }
+    requires le_m { (1 ≤ m) × (m ≤ 128) }
+    requires m_bound { (r0 + 2 * m ≤ at) × (r1 + 2 * m ≤ at) × (at + m ≤ length s.now) × (640 ≤ length made.old) }
     ensures { Right at s.now m (pair_of (reduce_of kind packing) (drop r0 s.now) (drop r1 s.now)) result }
 {
     if told_by_wholes(kind, packing, m, r0, r1, at, s) {
@@ -102,7 +102,7 @@ fn check_whole(
     s: &[u32],
     made: &mut [u32],
 ) -> usize
-    requires { (r0 + 2 * n ≤ at) × (r1 + 2 * n ≤ at) × (at + n ≤ length s.now) × (512 ≤ length made.old) }
+    requires { (r0 + 2 * n ≤ at) × (r1 + 2 * n ≤ at) × (at + n ≤ length s.now) × (640 ≤ length made.old) }
     ensures { Right at s.now n (pair_of (reduce_of kind packing) (drop r0 s.now) (drop r1 s.now)) result }
 {
     let mut x = 0;
@@ -130,7 +130,7 @@ pub fn check_row(
     s: &[u32],
     made: &mut [u32],
 ) -> usize
-    requires { (1 ≤ w) × (r0 + w ≤ at) × (r1 + w ≤ at) × (at + half w ≤ length s.now) × (512 ≤ length made.old) }
+    requires { (1 ≤ w) × (r0 + w ≤ at) × (r1 + w ≤ at) × (at + half w ≤ length s.now) × (640 ≤ length made.old) }
     ensures { Right at s.now (half w) (held_of (reduce_of kind packing) w (drop r0 s.now) (drop r1 s.now)) result }
 {
     if w < 2 {

@@ -11,7 +11,7 @@ use Rattle.reduce.proofs.check_block.check_block.Goals as goal
 use Rattle.reduce.proofs.check_block.check_block.Goals.{Start}
 
 -- the small level's sides
-few : (c : goal.Start) → (2 * c.args.m ≤ 512) × (c.args.w ≤ 512)
+few : (c : goal.Start) → (2 * c.args.m ≤ 384) × (c.args.w ≤ 384)
 few c =
     let a = c.args in
     let some : 1 ≤ 2 * a.m = omega arith in
@@ -35,7 +35,11 @@ pub overflow_mul-m-2 : goal.overflow_mul-m-2
 overflow_mul-m-2 c = rw c.halved.ensures (omega arith)
 
 pub alike-requires : goal.alike-requires
-alike-requires c = rw c.halved.ensures (search rules)
+alike-requires c =
+    let w = c.args.w in
+    let less : half w ≤ w = omega (arith, c.requires.le_w.0) in
+    let n : c.args.m * half w ≤ c.args.m * w = mul-le-mul_left c.args.m less in
+    rw c.halved.ensures (search rules, omega arith, omega arith)
 
 pub returns : goal.returns
 returns c =

@@ -23,7 +23,7 @@ overflow_mul-rows c =
 
 pub loop-y-init : goal.loop-y-init
 loop-y-init c =
-    (refl, rows-first _ _ _ _ _ _ _ _ c.requires.sides c.halved-w2.ensures c.halved-h2.ensures c.size-n.ensures c.requires.w_in_bounds.0)
+    (refl, rows-first _ _ _ _ _ _ _ _ c.requires.sides c.halved-w2.ensures c.halved-h2.ensures c.size-n.ensures c.requires.w_in_bounds)
 
 pub together-m-requires : goal.together-m-requires
 together-m-requires c =
@@ -49,10 +49,10 @@ places : (c : goal.After-rows_above-r)
 places c = rows-places c.loop-y.invariant.1 c.loop-y-test.true
 
 pub overflow_mul-at : goal.overflow_mul-at
-overflow_mul-at c = omega (arith, places c)
+overflow_mul-at c = omega (arith, rows-places c.loop-y.invariant.1 c.loop-y-test.true)
 
 pub overflow_add-at : goal.overflow_add-at
-overflow_add-at c = omega (arith, places c)
+overflow_add-at c = omega (arith, rows-places c.loop-y.invariant.1 c.loop-y-test.true)
 
 -- where they all stand, and how large the numbers get
 standing : (c : goal.After-rows_above-r)
@@ -91,9 +91,6 @@ overflow_add-result c =
     let most = (standing (goal.at.overflow_add-result c).After-rows_above-r).1.1 in
     below _ (omega arith)
 
-pub shape_of-made-then-right-m : goal.shape_of-made-then-right-m
-shape_of-made-then-right-m c = let e = c.loop-y.invariant.0 in omega arith
-
 pub returns-then-right-m : goal.returns-then-right-m
 returns-then-right-m c =
     rows-stop c.loop-y.invariant.1 _ (run (goal.at.returns-then-right-m c).After-together-m) c.rows_above-r.ensures _ c.check_rows-right.ensures c.if-right-m.true
@@ -111,9 +108,6 @@ loop-y-preserved c =
 
 pub overflow_mul-result-2 : goal.overflow_mul-result-2
 overflow_mul-result-2 c = omega (arith, c.loop-y.invariant.1.room)
-
-pub shape_of-made : goal.shape_of-made
-shape_of-made c = c.loop-y.invariant.0
 
 pub returns : goal.returns
 returns c = rows_right c.loop-y.invariant.1 c.loop-y-test.false
