@@ -3,7 +3,7 @@ ghost use Rattle.std.specs.Prelude.{◌≡◌, ◌+◌, ◌≤◌, length};
 ghost use Rattle.rules.specs.Kinds.{faces_of};
 ghost use Rattle.rules.specs.Sizes.{top, count};
 ghost use Rattle.rules.specs.Reducing.{reduce_of};
-ghost use Rattle.rules.specs.Checks.{level_verdict_of};
+ghost use Rattle.rules.specs.Checks.{level_verdict_of, chain_verdict_of};
 ghost use Rattle.rules.specs.Answers.{check_chain_answer, check_level_answer};
 ghost use Rattle.reduce.specs.Levels.{Sides};
 ghost use Rattle.levels.specs.Verdicts.{verdicts_from};
@@ -15,7 +15,7 @@ use reduce::check_level::check_next;
 use reduce::level::{halved, size};
 use rules::{Checked, Packing, PackingCode, Verdict};
 
-// One level's verdict: the first wrong texel's place. Level 0 always follows. `made` is room for what is made.
+// One level's verdict: the first wrong texel's place. Level 0 always follows.
 fn level_verdict(
     kind: u32,
     packing: Packing,
@@ -23,10 +23,8 @@ fn level_verdict(
     height: u32,
     level: u32,
     texels: &[u32],
-    made: &mut [u32],
 ) -> Verdict
-    requires sides { Sides (faces_of kind) width height × (count (faces_of kind) width height ≤ length texels.now) × (level ≤ top width height) }
-    requires in_bounds { 512 ≤ length made.old }
+    requires { Sides (faces_of kind) width height × (count (faces_of kind) width height ≤ length texels.now) × (level ≤ top width height) }
     ensures { result ≡ level_verdict_of kind packing width height texels.now level }
 {
     if level < 1 {
@@ -37,7 +35,7 @@ fn level_verdict(
     let h = side_at(height, level - 1) as usize;
     let before = start_of(faces, width, height, level - 1);
     let start = before + size(faces, w, h);
-    let right = check_next(kind, packing, faces, w, h, &texels[before..], made);
+    let right = check_next(kind, packing, faces, w, h, &texels[before..]);
     if right < size(faces, halved(w), halved(h)) {
         Verdict::WrongAt(start + right)
     } else {
@@ -58,17 +56,32 @@ fn levels_verdict(
     requires { Sides (faces_of kind) width height × (count (faces_of kind) width height ≤ length texels.now) × (first + n ≤ top width height + 1) }
     ensures { result ≡ verdicts_from (reduce_of kind packing) (faces_of kind) width height texels.now first n }
 {
-    let mut made = [0u32; 512];
     let mut k = 0u32;
     while k < n {
         let level = first + k;
-        let verdict = level_verdict(kind, packing, width, height, level, texels, &mut made);
+        let verdict = level_verdict(kind, packing, width, height, level, texels);
         let Verdict::Follows = verdict else {
             return verdict;
         };
         k += 1;
     }
     Verdict::Follows
+}
+
+// The whole chain's: the first of its levels' verdicts.
+fn chain_verdict(kind: u32, packing: Packing, width: u32, height: u32, texels: &[u32]) -> Verdict
+    requires { Sides (faces_of kind) width height × (count (faces_of kind) width height ≤ length texels.now) }
+    ensures { result ≡ chain_verdict_of kind packing width height texels.now }
+{
+    levels_verdict(
+        kind,
+        packing,
+        width,
+        height,
+        0,
+        top_level(width, height) + 1,
+        texels,
+    )
 }
 
 // Whether every level of a chain follows from the one before by the packing mode; else the first wrong texel's place.
@@ -80,10 +93,9 @@ pub fn check_chain(kind: u32, width: u32, height: u32, mode: u32, texels: &[u32]
         return Checked::Refused(refusal);
     }
     match packing_code(mode) {
-        PackingCode::By(packing) => {
-            let levels = top_level(width, height) + 1;
-            Checked::Of(levels_verdict(kind, packing, width, height, 0, levels, texels))
-        }
+        PackingCode::By(packing) => Checked::Of(chain_verdict(
+            kind, packing, width, height, texels,
+        )),
         PackingCode::Refused(n) => Checked::Refused(n),
     }
 }
@@ -109,7 +121,7 @@ pub fn check_level(
             if of_level != 0 {
                 return Checked::Refused(of_level);
             }
-            Checked::Of(levels_verdict(kind, packing, width, height, level, 1, texels))
+            Checked::Of(level_verdict(kind, packing, width, height, level, texels))
         }
         PackingCode::Refused(n) => Checked::Refused(n),
     }
