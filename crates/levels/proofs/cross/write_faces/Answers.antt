@@ -1,0 +1,73 @@
+use mathlib.Core.Path.{refl}
+use Prim.Native.Nat.{◌/◌}
+use native.Mathlib.Omega.{arith}
+use Rattle.rules.specs.Cross.{cross_height, column_of}
+use Rattle.levels.proofs.Crosses.{FaceRow, faces-first, faces-place, faces-more, faces-end}
+use Rattle.levels.proofs.cross.write_faces.Goals as goal
+use Rattle.levels.proofs.cross.write_faces.Goals.{After-column_of, After-row_of}
+
+pub overflow_mul-rows : goal.overflow_mul-rows
+overflow_mul-rows c = omega arith
+
+pub loop-y-init : goal.loop-y-init
+loop-y-init c =
+    let p = c.requires in
+    faces-first _ _ _ _ (omega arith) p.width_in_bounds p.width_in_bounds_2
+
+pub nonzero_div-face : goal.nonzero_div-face
+nonzero_div-face c = omega arith
+
+-- where the row is read and where it goes
+row : (c : goal.After-row_of)
+    → let a = c.args in
+    let y = c.loop-y.y in
+    FaceRow a.width a.height y c.row_of.result (column_of (y / cross_height a.height)) a.bytes.now a.faces.now
+row c = faces-place c.loop-y.invariant c.loop-y-test.true c.row_of.ensures refl
+
+pub overflow_mul-row : goal.overflow_mul-row
+overflow_mul-row c = omega (arith, row c)
+
+pub nonzero_rem-row : goal.nonzero_rem-row
+nonzero_rem-row c = omega arith
+
+pub overflow_add-row : goal.overflow_add-row
+overflow_add-row c = omega (arith, row c)
+
+pub overflow_mul-row-in-loop-y : goal.overflow_mul-row-in-loop-y
+overflow_mul-row-in-loop-y c = omega (arith, row c)
+
+place : (c : goal.After-column_of)
+    → let a = c.args in
+    FaceRow a.width a.height c.loop-y.y c.row_of.result c.column_of.result a.bytes.now a.faces.now
+place c =
+    faces-place c.loop-y.invariant c.loop-y-test.true c.row_of.ensures c.column_of.ensures
+
+pub overflow_mul-column_of : goal.overflow_mul-column_of
+overflow_mul-column_of c = omega (arith, place c)
+
+pub overflow_add-row-in-loop-y : goal.overflow_add-row-in-loop-y
+overflow_add-row-in-loop-y c = omega (arith, place c)
+
+pub overflow_mul-y : goal.overflow_mul-y
+overflow_mul-y c = omega (arith, place c)
+
+pub put_bytes-requires : goal.put_bytes-requires
+put_bytes-requires c =
+    let p = place (goal.at.put_bytes-requires c).After-column_of in
+    record { n_in_bounds = omega (arith, p); n_in_bounds_2 = omega (arith, p) }
+
+pub overflow_add-y : goal.overflow_add-y
+overflow_add-y c = omega (arith, place (goal.at.overflow_add-y c).After-column_of)
+
+pub loop-y-smaller : goal.loop-y-smaller
+loop-y-smaller c = omega arith
+
+pub loop-y-preserved : goal.loop-y-preserved
+loop-y-preserved c =
+    faces-more c.loop-y.invariant c.loop-y-test.true _ c.row_of.ensures c.column_of.ensures c.put_bytes.ensures
+
+pub shape_of-faces : goal.shape_of-faces
+shape_of-faces c = c.loop-y.invariant.rows.run.as_long
+
+pub returns : goal.returns
+returns c = faces-end c.loop-y.invariant c.loop-y-test.false

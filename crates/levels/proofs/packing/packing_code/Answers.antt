@@ -1,0 +1,16 @@
+-- `levels::packing::packing_code` meets its contract: one case a code.
+use borrow.Author.Tests.{ne_eqb}
+use Rattle.rules.specs.Packing.{packing_code}
+use Rattle.levels.proofs.packing.packing_code.Goals as goal
+
+pub returns-in-0 : goal.returns-in-0
+unfolding packing_code
+returns-in-0 c = rw c.in-0.is
+
+pub returns-in-1 : goal.returns-in-1
+unfolding packing_code
+returns-in-1 c = rw c.in-1.is
+
+pub returns-in_default : goal.returns-in_default
+unfolding packing_code
+returns-in_default c = let no = c.in_default.in_default-own.rest in rw (ne_eqb _ 0 no.0.1, ne_eqb _ 1 no.1)
