@@ -1,0 +1,19 @@
+-- `txr::file::load`: the texels passed stand at the front.
+use native.Mathlib.Omega.{arith}
+use mathlib.Core.Path.{◌≡◌, refl}
+use mathlib.Core.List.{List}
+use Prim.Native.Nat.{ℕ, ◌+◌, ◌-◌, ◌≤◌, ◌<◌}
+use native.Mathlib.Numerals.{add-one}
+use lib.ListN.{length, set}
+use Rattle.rules.specs.Levels.{tab}
+use Rattle.rules.proofs.Grid.{tab-suc}
+use Rattle.txr.specs.File.{texel_in}
+use Rattle.txr.specs.Writing.{Written}
+use Rattle.txr.proofs.Writings.{written_none, written_one, written-long}
+use Rattle.txr.proofs.file.load.Given as goal
+
+abbrev pub invariant-loop-i : goal.invariant-loop-i
+invariant-loop-i l = (l.i ≤ l.n) × (length l.texels ≡ length l.initial.texels) × Written 0 l.initial.texels (tab l.i (texel_in l.input)) l.i l.texels
+
+abbrev pub decreases-loop-i : goal.decreases-loop-i
+decreases-loop-i l = l.n - l.i

@@ -1,0 +1,18 @@
+-- `txr::lines::text`: the bytes passed stand in the buffer.
+use mathlib.Core.Path.{◌≡◌, refl}
+use mathlib.Core.List.{List}
+use Prim.Native.Nat.{ℕ, ◌+◌, ◌-◌, ◌≤◌, ◌<◌}
+use native.Mathlib.Nat.{add-zero}
+use native.Mathlib.Omega.{arith}
+use native.Mathlib.Numerals.{add-one}
+use lib.ListN.{length, get_or, take, set}
+use lib.Seq.{take-suc, take_all}
+use Rattle.txr.specs.Writing.{Written}
+use Rattle.txr.proofs.Writings.{written_none, written_one, written-long}
+use Rattle.txr.proofs.lines.text.Given as goal
+
+abbrev pub invariant-loop-i : goal.invariant-loop-i
+invariant-loop-i l = (l.i ≤ length l.bytes) × (length l.out ≡ length l.initial.out) × Written l.at l.initial.out (take l.i l.bytes) (l.at + l.i) l.out
+
+abbrev pub decreases-loop-i : goal.decreases-loop-i
+decreases-loop-i l = length l.bytes - l.i
