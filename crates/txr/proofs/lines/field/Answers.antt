@@ -9,9 +9,6 @@ use Rattle.txr.proofs.lines.field.Goals as goal
 pub decimal-next-requires : goal.decimal-next-requires
 decimal-next-requires c = omega (arith, length-decimal c.args.n, length-field c.args.n)
 
--- LEFT slice-aggregate-text : tie.Need-slice-aggregate-text
--- LEFT slice-aggregate-text c = search rules
-
 pub text-requires : goal.text-requires
 text-requires c = omega (arith, length-decimal c.args.n, length-field c.args.n)
 

@@ -18,9 +18,6 @@ field-height-requires c = let a = c.args in omega (arith, length-line a.m a.w a.
 pub hex-end-requires : goal.hex-end-requires
 hex-end-requires c = let a = c.args in omega (arith, length-line a.m a.w a.h a.texel)
 
--- LEFT slice-aggregate-text : tie.Need-slice-aggregate-text
--- LEFT slice-aggregate-text c = search rules
-
 pub text-requires : goal.text-requires
 text-requires c = let a = c.args in omega (arith, length-line a.m a.w a.h a.texel, length-hex a.texel)
 

@@ -6,17 +6,11 @@ use Rattle.txr.proofs.Writings.{written-more}
 use borrow.Author.Rules.{rules}
 use Rattle.txr.proofs.lines.refused.Goals as goal
 
--- LEFT slice-aggregate-text : tie.Need-slice-aggregate-text
--- LEFT slice-aggregate-text c = search rules
-
 pub text-word-requires : goal.text-word-requires
 text-word-requires c = omega (arith, length-refused c.args.n)
 
 pub decimal-end-requires : goal.decimal-end-requires
 decimal-end-requires c = let n = c.args.n in omega (arith, length-refused n, length-decimal n)
-
--- LEFT slice-aggregate-text-2 : tie.Need-slice-aggregate-text-2
--- LEFT slice-aggregate-text-2 c = search rules
 
 pub text-requires : goal.text-requires
 text-requires c = let n = c.args.n in omega (arith, length-refused n, length-decimal n)

@@ -20,9 +20,8 @@ returns-in-Picture c = let all = listed c.list_levels.ensures in record {
       leaves = all.1;
     }
 
-pub returns-in-Refused : goal.returns-in-Refused
-returns-in-Refused c = let all = let e = refused-listed c.args.input.now _ (sym c.parse.ensures.answer ∙ c.in-Refused.is) in
-    rw (← e) (listed c.refused.ensures) in record {
-      answer = all.0;
-      leaves = all.1;
-    }
+pub returns-in-Refused-clause-answer : goal.returns-in-Refused-clause-answer
+returns-in-Refused-clause-answer c = rw (← refused-listed c.args.input.now _ (sym c.parse.ensures.answer ∙ c.in-Refused.is)) (listed c.refused.ensures).0
+
+pub returns-in-Refused-clause-leaves : goal.returns-in-Refused-clause-leaves
+returns-in-Refused-clause-leaves c = rw (← refused-listed c.args.input.now _ (sym c.parse.ensures.answer ∙ c.in-Refused.is)) (listed c.refused.ensures).1
