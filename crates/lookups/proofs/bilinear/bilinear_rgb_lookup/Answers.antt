@@ -5,7 +5,6 @@ use Rattle.rules.proofs.Bounds.{taken-top}
 use Rattle.rules.proofs.RefusingLookups.{BilinearRgb, bilinear-rgb-facts}
 use Rattle.lookups.specs.declared.lookup.Lookup.TheVariants.{In, Refused}
 use Rattle.lookups.proofs.Passing.{refuses, gives}
-use borrow.Author.Rules.{rules}
 use Rattle.lookups.proofs.bilinear.bilinear_rgb_lookup.Goals as goal
 use Rattle.lookups.proofs.bilinear.bilinear_rgb_lookup.Goals.{Else-refusal-ne0}
 

@@ -13,9 +13,8 @@ use Rattle.lane.specs.Reading.{AllWithin, blended_alpha}
 use Rattle.lookups.specs.Reads.{wrapped_of}
 use Rattle.lookups.proofs.Answering.{wrapped-sized, wrapped-faces, wrapped-squares, bilinear-alpha-read}
 use Rattle.lookups.proofs.Passing.{refuses, lookup-given, lookup-refused}
-use borrow.Author.Rules.{rules}
 use Rattle.lookups.proofs.bilinear.sample_bilinear_alpha.Goals as goal
-use Rattle.lookups.proofs.bilinear.sample_bilinear_alpha.Goals.{After-squares-arg-1, In-In, Start}
+use Rattle.lookups.proofs.bilinear.sample_bilinear_alpha.Goals.{In-In, Start}
 
 -- every kind has a first face
 first : (kind : ℕ) → Below (faces_of kind) (record { a = 0; b = 0; c = 0; d = 0 })
@@ -34,17 +33,19 @@ module _ (c : goal.In-In) where
 
 pub returns-in_default : goal.returns-in_default
 unfolding bilinear_alpha_answer
-returns-in_default c = record { answer = let r = lookup-refused _ c.bilinear_alpha_lookup-found.ensures c.in_default.is c.lookup_number.ensures in
-    refuses _ _ r.0 r.1 }
+returns-in_default c = record {
+  answer = let r = lookup-refused _ c.bilinear_alpha_lookup-found.ensures c.in_default.is c.lookup_number.ensures in
+      refuses _ _ r.0 r.1;
+}
 
 pub squares-at-requires : goal.squares-at-requires
 squares-at-requires c =
-    let f = facts c in
-    (wrapped-sized _ _ _ _ _ (given c).1 f.chained.taken f.blended.below, wrapped-faces _ _ _ _ _ (given c).1 _ (first _), f.blended.coordinates)
+    let f = facts (goal.at.squares-at-requires c).In-In in
+    (wrapped-sized _ _ _ _ _ (given (goal.at.squares-at-requires c).In-In).1 f.chained.taken f.blended.below, wrapped-faces _ _ _ _ _ (given (goal.at.squares-at-requires c).In-In).1 _ (first _), f.blended.coordinates)
 
 pub squares_alpha-requires : goal.squares_alpha-requires
 squares_alpha-requires c =
-    subst (AllWithin _) (sym c.squares-at.ensures) (wrapped-squares _ _ _ _ _ (given (goal.at.squares_alpha-requires c).After-squares-arg-1).1 _ _ _ _ (first _) (facts (goal.at.squares_alpha-requires c).After-squares-arg-1).chained (facts (goal.at.squares_alpha-requires c).After-squares-arg-1).blended.below)
+    subst (AllWithin _) (sym c.squares-at.ensures) (wrapped-squares _ _ _ _ _ (given (goal.at.squares_alpha-requires c).In-In).1 _ _ _ _ (first _) (facts (goal.at.squares_alpha-requires c).In-In).chained (facts (goal.at.squares_alpha-requires c).In-In).blended.below)
 
 pub returns : goal.returns
-returns c = record { answer = ap Of (c.squares_alpha.ensures ∙ ap (blended_alpha _) c.squares-at.ensures) ∙ sym (bilinear-alpha-read _ _ _ _ _ _ _ _ (given (goal.at.returns c).After-squares-arg-1).0 (given (goal.at.returns c).After-squares-arg-1).1) }
+returns c = record { answer = ap Of (c.squares_alpha.ensures ∙ ap (blended_alpha _) c.squares-at.ensures) ∙ sym (bilinear-alpha-read _ _ _ _ _ _ _ _ (given (goal.at.returns c).In-In).0 (given (goal.at.returns c).In-In).1) }

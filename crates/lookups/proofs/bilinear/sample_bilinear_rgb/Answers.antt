@@ -9,9 +9,8 @@ use Rattle.lane.specs.Reading.{AllWithin, blended_rgb}
 use Rattle.lookups.specs.Reads.{wrapped_of}
 use Rattle.lookups.proofs.Answering.{faces-below, wrapped-sized, wrapped-faces, wrapped-squares, bilinear-rgb-read}
 use Rattle.lookups.proofs.Passing.{refuses, lookup-given, lookup-refused}
-use borrow.Author.Rules.{rules}
 use Rattle.lookups.proofs.bilinear.sample_bilinear_rgb.Goals as goal
-use Rattle.lookups.proofs.bilinear.sample_bilinear_rgb.Goals.{After-squares-arg-1, In-In, Start}
+use Rattle.lookups.proofs.bilinear.sample_bilinear_rgb.Goals.{In-In, Start}
 
 -- past the refusals
 module _ (c : goal.In-In) where
@@ -26,17 +25,19 @@ module _ (c : goal.In-In) where
 
 pub returns-in_default : goal.returns-in_default
 unfolding bilinear_rgb_answer
-returns-in_default c = record { answer = let r = lookup-refused _ c.bilinear_rgb_lookup-found.ensures c.in_default.is c.lookup_number.ensures in
-    refuses _ _ r.0 r.1 }
+returns-in_default c = record {
+  answer = let r = lookup-refused _ c.bilinear_rgb_lookup-found.ensures c.in_default.is c.lookup_number.ensures in
+      refuses _ _ r.0 r.1;
+}
 
 pub squares-at-requires : goal.squares-at-requires
 squares-at-requires c =
-    let f = facts c in
-    (wrapped-sized _ _ _ _ _ (given c).1 f.chained.taken f.blended.below, wrapped-faces _ _ _ _ _ (given c).1 _ (faces-below _ _ f.faces), f.blended.coordinates)
+    let f = facts (goal.at.squares-at-requires c).In-In in
+    (wrapped-sized _ _ _ _ _ (given (goal.at.squares-at-requires c).In-In).1 f.chained.taken f.blended.below, wrapped-faces _ _ _ _ _ (given (goal.at.squares-at-requires c).In-In).1 _ (faces-below _ _ f.faces), f.blended.coordinates)
 
 pub squares_rgb-requires : goal.squares_rgb-requires
 squares_rgb-requires c =
-    subst (AllWithin _) (sym c.squares-at.ensures) (wrapped-squares _ _ _ _ _ (given (goal.at.squares_rgb-requires c).After-squares-arg-1).1 _ _ _ _ (faces-below _ _ (facts (goal.at.squares_rgb-requires c).After-squares-arg-1).faces) (facts (goal.at.squares_rgb-requires c).After-squares-arg-1).chained (facts (goal.at.squares_rgb-requires c).After-squares-arg-1).blended.below)
+    subst (AllWithin _) (sym c.squares-at.ensures) (wrapped-squares _ _ _ _ _ (given (goal.at.squares_rgb-requires c).In-In).1 _ _ _ _ (faces-below _ _ (facts (goal.at.squares_rgb-requires c).In-In).faces) (facts (goal.at.squares_rgb-requires c).In-In).chained (facts (goal.at.squares_rgb-requires c).In-In).blended.below)
 
 pub returns : goal.returns
-returns c = record { answer = ap Rgb (c.squares_rgb.ensures ∙ ap (blended_rgb _) c.squares-at.ensures) ∙ sym (bilinear-rgb-read _ _ _ _ _ _ _ _ _ (given (goal.at.returns c).After-squares-arg-1).0 (given (goal.at.returns c).After-squares-arg-1).1) }
+returns c = record { answer = ap Rgb (c.squares_rgb.ensures ∙ ap (blended_rgb _) c.squares-at.ensures) ∙ sym (bilinear-rgb-read _ _ _ _ _ _ _ _ _ (given (goal.at.returns c).In-In).0 (given (goal.at.returns c).In-In).1) }

@@ -5,7 +5,6 @@ use Rattle.rules.specs.Refusals.{cubemap_refusal}
 use Rattle.rules.proofs.Refusing.{or_else-none}
 use Rattle.rules.proofs.RefusingLookups.{cubemap-facts}
 use Rattle.lookups.proofs.Passing.{refuses, gives}
-use borrow.Author.Rules.{rules}
 use Rattle.lookups.proofs.cubemap.cubemap_facing.Goals as goal
 use Rattle.lookups.proofs.cubemap.cubemap_facing.Goals.{After-or_else-refusal}
 
@@ -17,14 +16,14 @@ number c =
 
 pub returns-then-refusal-ne0 : goal.returns-then-refusal-ne0
 returns-then-refusal-ne0 c =
-     record {
+    record {
       answer = refuses _ _ (number (goal.at.returns-then-refusal-ne0 c).After-or_else-refusal) c.if-refusal-ne0.true;
       past = λ z. absurd (c.if-refusal-ne0.true (number (goal.at.returns-then-refusal-ne0 c).After-or_else-refusal ∙ z));
     }
 
 pub returns : goal.returns
 returns c =
-     record {
+    record {
       answer = ap On c.meet_four-met.ensures.0 ∙ sym (gives Refused _ (number (goal.at.returns c).After-or_else-refusal) c.if-refusal-ne0.false);
       past = λ z. (c.started_refusal-chain.ensures.starts (or_else-none _ _ (sym c.or_else-refusal.ensures ∙ c.if-refusal-ne0.false)).0, c.meet_four-met.ensures.2 (cubemap-facts _ _ _ _ _ z).directions);
     }

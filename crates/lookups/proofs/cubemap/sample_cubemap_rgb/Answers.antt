@@ -10,7 +10,6 @@ use Rattle.lane.specs.Reading.{Inside, read_rgb}
 use Rattle.lane.proofs.Holding.{cubes-inside}
 use Rattle.lookups.proofs.Passing.{refuses, facing-given, facing-refused}
 use Rattle.lookups.proofs.Answering.{cube-chained, cubemap-read}
-use borrow.Author.Rules.{rules}
 use Rattle.lookups.proofs.cubemap.sample_cubemap_rgb.Goals as goal
 use Rattle.lookups.proofs.cubemap.sample_cubemap_rgb.Goals.{In-On, Start}
 
@@ -27,8 +26,10 @@ module _ (c : goal.In-On) where
 
 pub returns-in_default : goal.returns-in_default
 unfolding cubemap_answer
-returns-in_default c = record { answer = let r = facing-refused _ c.cubemap_facing-found.ensures.answer c.in_default.is c.facing_number.ensures in
-    refuses _ _ r.0 r.1 }
+returns-in_default c = record {
+  answer = let r = facing-refused _ c.cubemap_facing-found.ensures.answer c.in_default.is c.facing_number.ensures in
+      refuses _ _ r.0 r.1;
+}
 
 pub cube_places-at-requires : goal.cube_places-at-requires
 cube_places-at-requires c =

@@ -7,7 +7,6 @@ use Rattle.rules.specs.Lanes.{in_directions}
 use Rattle.rules.specs.Refusals.{directions_refusal}
 use Rattle.rules.specs.Answers.{spots_of}
 use Rattle.places.specs.Spots.{OnCube}
-use borrow.Author.Rules.{rules}
 use Rattle.lookups.proofs.facing.meet_four.Goals as goal
 
 -- a place of a direction that is taken lies on the cube
@@ -16,14 +15,13 @@ lies e k = k (subst T (sym e) tt)
 
 pub returns : goal.returns
 unfolding spots_of directions_refusal in_directions
-returns c =
-    (
-      rw (c.spots.ensures, c.meet-a.ensures.0, c.meet-b.ensures.0, c.meet-c.ensures.0, c.meet-d.ensures.0),
-      rw (c.unless.ensures, c.all_counted.ensures, c.meet-a.ensures.1, c.meet-b.ensures.1, c.meet-c.ensures.1, c.meet-d.ensures.1),
-      λ f. record {
-        on-a = lies f.a c.meet-a.ensures.2;
-        on-b = lies f.b c.meet-b.ensures.2;
-        on-c = lies f.c c.meet-c.ensures.2;
-        on-d = lies f.d c.meet-d.ensures.2;
-      },
-    )
+returns c = (
+  rw (c.spots.ensures, c.meet-a.ensures.0, c.meet-b.ensures.0, c.meet-c.ensures.0, c.meet-d.ensures.0),
+  rw (c.unless.ensures, c.all_counted.ensures, c.meet-a.ensures.1, c.meet-b.ensures.1, c.meet-c.ensures.1, c.meet-d.ensures.1),
+  λ f. record {
+    on-a = lies f.a c.meet-a.ensures.2;
+    on-b = lies f.b c.meet-b.ensures.2;
+    on-c = lies f.c c.meet-c.ensures.2;
+    on-d = lies f.d c.meet-d.ensures.2;
+  },
+)

@@ -5,7 +5,6 @@ use Rattle.rules.specs.declared.Level.TheVariants.{At}
 use Rattle.rules.specs.Answers.{mip_level_answer}
 use Rattle.rules.proofs.RefusingLookups.{mip-facts}
 use Rattle.lookups.proofs.Passing.{refuses, gives}
-use borrow.Author.Rules.{rules}
 use Rattle.lookups.proofs.mip.compute_mip_level.Goals as goal
 
 pub returns-then-refusal-ne0 : goal.returns-then-refusal-ne0

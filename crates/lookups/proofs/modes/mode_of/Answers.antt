@@ -1,6 +1,5 @@
 -- `lookups::modes::mode_of` meets its contract.
 use mathlib.Core.Path.{sym, ◌∙◌}
-use borrow.Author.Rules.{rules}
 use Rattle.lookups.proofs.modes.mode_of.Goals as goal
 
 pub returns-in-By : goal.returns-in-By

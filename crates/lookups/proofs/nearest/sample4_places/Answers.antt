@@ -11,9 +11,8 @@ use Rattle.lookups.specs.declared.nearest.Places.TheVariants.{At, Refused}
 use Rattle.lookups.specs.Reads.{wrapped_of, sample4_four}
 use Rattle.lookups.proofs.Answering.{wrapped-sized}
 use Rattle.lookups.proofs.Passing.{refuses, gives}
-use borrow.Author.Rules.{rules}
 use Rattle.lookups.proofs.nearest.sample4_places.Goals as goal
-use Rattle.lookups.proofs.nearest.sample4_places.Goals.{After-in_level-on, After-mip_level_of-level, After-nearest_places-arg-1, Else-refusal-ne0}
+use Rattle.lookups.proofs.nearest.sample4_places.Goals.{After-in_level-on, Else-refusal-ne0}
 
 -- past the refusals
 facts : (c : goal.Else-refusal-ne0) → let a = c.args in Sampled a.kind a.width a.height a.n a.sampler a.u a.v a.steps
@@ -37,11 +36,11 @@ in_level-on-requires c =
 
 pub nearest_places-requires : goal.nearest_places-requires
 nearest_places-requires c =
-    (wrapped-sized _ _ _ _ _ (wrapped c) (facts (goal.at.nearest_places-requires c).After-mip_level_of-level).chained.taken (mip-below _ _ _), (facts (goal.at.nearest_places-requires c).After-mip_level_of-level).coordinates)
+    (wrapped-sized _ _ _ _ _ (wrapped (goal.at.nearest_places-requires c).After-in_level-on) (facts (goal.at.nearest_places-requires c).Else-refusal-ne0).chained.taken (mip-below _ _ _), (facts (goal.at.nearest_places-requires c).Else-refusal-ne0).coordinates)
 
 pub returns : goal.returns
 unfolding sample4_four
 returns c =
     let a = c.args in
-    ap At (c.nearest_places.ensures ∙ ap (λ (q : Wrapped). nearest_four q.plane q.s q.t a.u a.v) (wrapped (goal.at.returns c).After-nearest_places-arg-1))
+    ap At (c.nearest_places.ensures ∙ ap (λ (q : Wrapped). nearest_four q.plane q.s q.t a.u a.v) (wrapped (goal.at.returns c).After-in_level-on))
     ∙ sym (gives Refused _ c.sample4_refusal-refusal.ensures.number c.if-refusal-ne0.false)

@@ -7,7 +7,6 @@ use Rattle.rules.specs.Answers.{sample4_rgb_answer}
 use Rattle.lookups.specs.Reads.{sample4_four}
 use Rattle.lookups.proofs.Answering.{sample4-inside, sample4-rgb-read}
 use Rattle.lookups.proofs.Passing.{refuses, places-given, places-refused}
-use borrow.Author.Rules.{rules}
 use Rattle.lookups.proofs.nearest.sample4_rgb.Goals as goal
 use Rattle.lookups.proofs.nearest.sample4_rgb.Goals.{In-At, Start}
 
@@ -21,8 +20,10 @@ module _ (c : goal.In-At) where
 
 pub returns-in_default : goal.returns-in_default
 unfolding sample4_rgb_answer
-returns-in_default c = record { answer = let r = places-refused _ c.sample4_places-found.ensures c.in_default.is c.places_number.ensures in
-    refuses _ _ r.0 r.1 }
+returns-in_default c = record {
+  answer = let r = places-refused _ c.sample4_places-found.ensures c.in_default.is c.places_number.ensures in
+      refuses _ _ r.0 r.1;
+}
 
 pub rgb_four-requires : goal.rgb_four-requires
 rgb_four-requires c = sample4-inside _ _ _ _ _ _ _ _ (given c).0 (given c).1

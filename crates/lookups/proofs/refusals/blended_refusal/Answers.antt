@@ -1,5 +1,4 @@
 -- `lookups::refusals::blended_refusal` meets its contract.
-use borrow.Author.Rules.{rules}
 use Rattle.lookups.proofs.refusals.blended_refusal.Goals as goal
 
 pub returns : goal.returns

@@ -1,6 +1,5 @@
 -- `lookups::refusals::faces_refusal` meets its contract.
 use Rattle.lookups.proofs.Passing.{faces-four}
-use borrow.Author.Rules.{rules}
 use Rattle.lookups.proofs.refusals.faces_refusal.Goals as goal
 
 pub returns : goal.returns

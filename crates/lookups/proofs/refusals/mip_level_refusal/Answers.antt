@@ -1,6 +1,5 @@
 -- `lookups::refusals::mip_level_refusal` meets its contract.
 use Rattle.rules.specs.Refusals.{mip_level_refusal}
-use borrow.Author.Rules.{rules}
 use Rattle.lookups.proofs.refusals.mip_level_refusal.Goals as goal
 
 pub returns : goal.returns

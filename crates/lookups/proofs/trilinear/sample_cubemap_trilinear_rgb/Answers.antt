@@ -11,9 +11,8 @@ use Rattle.lane.specs.Cubes.{AllOnCube}
 use Rattle.lane.proofs.Holding.{cubes-inside}
 use Rattle.lookups.proofs.Answering.{cube-chained, trilinear-made}
 use Rattle.lookups.proofs.Passing.{refuses, facing-given, facing-refused}
-use borrow.Author.Rules.{rules}
 use Rattle.lookups.proofs.trilinear.sample_cubemap_trilinear_rgb.Goals as goal
-use Rattle.lookups.proofs.trilinear.sample_cubemap_trilinear_rgb.Goals.{After-finite_refusal-numbers, After-starts-3-1, After-top_level, Else-numbers-ne0, In-On, Start}
+use Rattle.lookups.proofs.trilinear.sample_cubemap_trilinear_rgb.Goals.{Else-numbers-ne0, In-On, Start}
 
 -- past the refusals
 module _ (c : goal.In-On) where
@@ -35,8 +34,10 @@ none c = or_else-taken _ _ (given (goal.at.Else-numbers-ne0 c).In-On).0 (sym c.f
 
 pub returns-in_default : goal.returns-in_default
 unfolding trilinear_answer trilinear_refusal
-returns-in_default c = record { answer = let r = facing-refused _ c.cubemap_facing-found.ensures.answer c.in_default.is c.facing_number.ensures in
-    refuses _ _ (r.0 ∙ sym (or_else-given _ _ (λ z. r.1 (r.0 ∙ z)))) r.1 }
+returns-in_default c = record {
+  answer = let r = facing-refused _ c.cubemap_facing-found.ensures.answer c.in_default.is c.facing_number.ensures in
+      refuses _ _ (r.0 ∙ sym (or_else-given _ _ (λ z. r.1 (r.0 ∙ z)))) r.1;
+}
 
 pub returns-then-numbers-ne0 : goal.returns-then-numbers-ne0
 unfolding trilinear_answer trilinear_refusal
@@ -53,11 +54,11 @@ level_places-at-requires c =
 
 pub rgb_four-low-requires : goal.rgb_four-low-requires
 rgb_four-low-requires c =
-    rw c.level_places-at.ensures (cubes-inside _ _ _ (cube-chained (facts (goal.at.rgb_four-low-requires c).After-finite_refusal-numbers)) (met (goal.at.rgb_four-low-requires c).After-finite_refusal-numbers))
+    rw c.level_places-at.ensures (cubes-inside _ _ _ (cube-chained (facts (goal.at.rgb_four-low-requires c).In-On)) (met (goal.at.rgb_four-low-requires c).In-On))
 
 pub rgb_four-high-requires : goal.rgb_four-high-requires
 rgb_four-high-requires c =
-    rw c.level_places-at.ensures (cubes-inside _ _ _ (cube-chained (facts (goal.at.rgb_four-high-requires c).Else-numbers-ne0)) (met (goal.at.rgb_four-high-requires c).Else-numbers-ne0))
+    rw c.level_places-at.ensures (cubes-inside _ _ _ (cube-chained (facts (goal.at.rgb_four-high-requires c).In-On)) (met (goal.at.rgb_four-high-requires c).In-On))
 
 pub returns : goal.returns
-returns c = record { answer = trilinear-made _ _ _ _ _ _ (none (goal.at.returns c).After-starts-3-1) (given (goal.at.returns c).After-top_level).1 c.top_level.ensures c.two_levels-m.ensures.0 c.level_places-at.ensures c.rgb_four-low.ensures c.rgb_four-high.ensures c.lerp_four.ensures }
+returns c = record { answer = trilinear-made _ _ _ _ _ _ (none (goal.at.returns c).Else-numbers-ne0) (given (goal.at.returns c).In-On).1 c.top_level.ensures c.two_levels-m.ensures.0 c.level_places-at.ensures c.rgb_four-low.ensures c.rgb_four-high.ensures c.lerp_four.ensures }

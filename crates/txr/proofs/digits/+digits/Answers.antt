@@ -4,7 +4,6 @@ use Prim.Native.Nat.{ℕ, ◌+◌, ◌<◌}
 use lib.ListN.{length, set}
 use Rattle.txr.specs.Digits.{digits_of}
 use Rattle.txr.specs.Writing.{Written}
-use Rattle.txr.proofs.Writings.{written-long}
 use Rattle.txr.proofs.Spelling.{digits-none, digits_more}
 use Rattle.txr.proofs.digits.+digits.Goals as goal
 use Rattle.txr.proofs.digits.+digits.Goals.{After-digit}

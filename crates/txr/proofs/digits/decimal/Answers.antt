@@ -2,7 +2,6 @@
 use native.Mathlib.Omega.{arith}
 use Rattle.txr.specs.Digits.{decimal_of}
 use Rattle.txr.proofs.Spelling.{length-decimal}
-use borrow.Author.Rules.{rules}
 use Rattle.txr.proofs.digits.decimal.Goals as goal
 
 pub digits-requires : goal.digits-requires

@@ -1,5 +1,4 @@
 -- `txr::digits::digit` meets its contract.
-use borrow.Author.Rules.{rules}
 use borrow.Author.Tests.{lt-ltb, le-ltb}
 use Rattle.txr.specs.Digits.{digit_of}
 use Rattle.txr.proofs.digits.digit.Goals as goal

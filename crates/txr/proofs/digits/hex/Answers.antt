@@ -1,6 +1,5 @@
 -- `txr::digits::hex` meets its contract.
 use Rattle.txr.specs.Digits.{hex_of}
-use borrow.Author.Rules.{rules}
 use Rattle.txr.proofs.digits.hex.Goals as goal
 
 pub returns : goal.returns

@@ -1,7 +1,4 @@
-use mathlib.Core.Path.{◌≡◌}
-use Prim.Native.Nat.{◌+◌, ◌≤◌}
 use native.Mathlib.Omega.{arith}
-use Rattle.txr.specs.Digits.{places_of}
 use Rattle.txr.proofs.Spelling.{places-one, places-more}
 use Rattle.txr.proofs.digits.places.Goals as goal
 

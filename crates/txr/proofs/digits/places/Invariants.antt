@@ -1,9 +1,7 @@
 -- `txr::digits::places`: what was counted and what is left to count is one more than the whole.
 use mathlib.Core.Path.{◌≡◌}
 use Prim.Native.Nat.{◌+◌, ◌≤◌}
-use native.Mathlib.Omega.{arith}
 use Rattle.txr.specs.Digits.{places_of}
-use Rattle.txr.proofs.Spelling.{places-one, places-more}
 use Rattle.txr.proofs.digits.places.Given as goal
 
 abbrev pub invariant-loop-rest : goal.invariant-loop-rest

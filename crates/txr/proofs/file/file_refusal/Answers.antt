@@ -1,7 +1,6 @@
 -- `txr::file::file_refusal` meets its contract: the first of the three numbers that is given.
 use mathlib.Core.Path.{sym, ◌∙◌}
 use Rattle.txr.proofs.Files.{header-ten, levels-found, by-header, by-levels, by_length}
-use borrow.Author.Rules.{rules}
 use Rattle.txr.proofs.file.file_refusal.Goals as goal
 
 pub returns-then-first-ne0 : goal.returns-then-first-ne0

@@ -1,6 +1,5 @@
 -- `txr::file::header` meets its contract.
 use native.Mathlib.Omega.{arith}
-use borrow.Author.Rules.{rules}
 use Rattle.txr.proofs.file.header.Goals as goal
 
 pub overflow_cast-result : goal.overflow_cast-result

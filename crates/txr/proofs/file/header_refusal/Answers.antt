@@ -1,7 +1,6 @@
 -- `txr::file::header_refusal` meets its contract.
 use borrow.Author.Tests.{le-leb, lt-leb}
 use Rattle.txr.specs.File.{header_refusal}
-use borrow.Author.Rules.{rules}
 use Rattle.txr.proofs.file.header_refusal.Goals as goal
 
 pub returns-then-input-lt10 : goal.returns-then-input-lt10

@@ -5,7 +5,6 @@ use Prim.Native.Nat.{◌≤◌}
 use borrow.Author.Tests.{eq-eqb, ne_eqb}
 use Rattle.txr.specs.File.{size_in, length_refusal}
 use Rattle.txr.proofs.Files.{size-asked, size-found, size-most}
-use borrow.Author.Rules.{rules}
 use Rattle.txr.proofs.file.length_refusal.Goals as goal
 use Rattle.txr.proofs.file.length_refusal.Goals.{After-start_of-size}
 

@@ -1,12 +1,11 @@
 use native.Mathlib.Omega.{arith}
 use mathlib.Core.Path.{◌≡◌, refl}
 use mathlib.Core.List.{List}
-use Prim.Native.Nat.{ℕ, ◌+◌, ◌-◌, ◌≤◌, ◌<◌}
+use Prim.Native.Nat.{ℕ, ◌+◌, ◌≤◌, ◌<◌}
 use native.Mathlib.Numerals.{add-one}
 use lib.ListN.{length, set}
 use Rattle.rules.specs.Levels.{tab}
 use Rattle.rules.proofs.Grid.{tab-suc}
-use Rattle.txr.specs.File.{texel_in}
 use Rattle.txr.specs.Writing.{Written}
 use Rattle.txr.proofs.Writings.{written_none, written_one, written-long}
 use Rattle.txr.proofs.file.load.Goals as goal

@@ -1,7 +1,6 @@
 -- `txr::file::marked` meets its contract, a test a byte.
 use borrow.Author.Tests.{eq-eqb, ne_eqb}
 use Rattle.txr.specs.File.{marked}
-use borrow.Author.Rules.{rules}
 use Rattle.txr.proofs.file.marked.Goals as goal
 
 pub returns-then-input-ne84 : goal.returns-then-input-ne84

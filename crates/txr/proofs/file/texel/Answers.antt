@@ -1,6 +1,5 @@
 -- `txr::file::texel` meets its contract.
 use Rattle.txr.specs.File.{texel_in}
-use borrow.Author.Rules.{rules}
 use Rattle.txr.proofs.file.texel.Goals as goal
 
 pub returns : goal.returns

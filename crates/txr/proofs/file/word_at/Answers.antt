@@ -3,7 +3,6 @@ use native.Mathlib.Omega.{arith}
 use mathlib.Core.Path.{refl}
 use Prim.Native.Nat.{◌+◌}
 use Rattle.txr.specs.File.{word_at}
-use borrow.Author.Rules.{rules}
 use Rattle.txr.proofs.file.word_at.Goals as goal
 
 pub overflow_cast-result : goal.overflow_cast-result

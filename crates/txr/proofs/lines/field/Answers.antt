@@ -3,7 +3,6 @@ use native.Mathlib.Omega.{arith}
 use Rattle.txr.specs.Listing.{field_of}
 use Rattle.txr.proofs.Spelling.{length-decimal, length-field}
 use Rattle.txr.proofs.Writings.{written-more}
-use borrow.Author.Rules.{rules}
 use Rattle.txr.proofs.lines.field.Goals as goal
 
 pub decimal-next-requires : goal.decimal-next-requires

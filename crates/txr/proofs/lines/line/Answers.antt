@@ -3,7 +3,6 @@ use native.Mathlib.Omega.{arith}
 use Rattle.txr.specs.Listing.{line_of}
 use Rattle.txr.proofs.Spelling.{length-line, length-hex}
 use Rattle.txr.proofs.Writings.{written-more}
-use borrow.Author.Rules.{rules}
 use Rattle.txr.proofs.lines.line.Goals as goal
 
 pub field-number-requires : goal.field-number-requires

@@ -3,7 +3,6 @@ use native.Mathlib.Omega.{arith}
 use Rattle.txr.specs.Listing.{refused_line}
 use Rattle.txr.proofs.Spelling.{length-decimal, length-refused}
 use Rattle.txr.proofs.Writings.{written-more}
-use borrow.Author.Rules.{rules}
 use Rattle.txr.proofs.lines.refused.Goals as goal
 
 pub text-word-requires : goal.text-word-requires

@@ -1,14 +1,8 @@
 -- `txr::lines::text`: the bytes passed stand in the buffer.
-use mathlib.Core.Path.{◌≡◌, refl}
-use mathlib.Core.List.{List}
-use Prim.Native.Nat.{ℕ, ◌+◌, ◌-◌, ◌≤◌, ◌<◌}
-use native.Mathlib.Nat.{add-zero}
-use native.Mathlib.Omega.{arith}
-use native.Mathlib.Numerals.{add-one}
-use lib.ListN.{length, get_or, take, set}
-use lib.Seq.{take-suc, take_all}
+use mathlib.Core.Path.{◌≡◌}
+use Prim.Native.Nat.{◌+◌, ◌-◌, ◌≤◌}
+use lib.ListN.{length, take}
 use Rattle.txr.specs.Writing.{Written}
-use Rattle.txr.proofs.Writings.{written_none, written_one, written-long}
 use Rattle.txr.proofs.lines.text.Given as goal
 
 abbrev pub invariant-loop-i : goal.invariant-loop-i

@@ -3,7 +3,6 @@ use native.Mathlib.Omega.{arith}
 use Prim.Native.Nat.{◌<◌}
 use lib.ListN.{length}
 use Rattle.txr.proofs.Listings.{level-numbers, level-inside, level-most, line-found}
-use borrow.Author.Rules.{rules}
 use Rattle.txr.proofs.listing.level_line.Goals as goal
 use Rattle.txr.proofs.listing.level_line.Goals.{After-start_of-start}
 

@@ -1,11 +1,10 @@
 use native.Mathlib.Omega.{arith}
 use mathlib.Core.Path.{◌≡◌}
-use Prim.Native.Nat.{suc, ◌+◌, ◌-◌, ◌≤◌}
+use Prim.Native.Nat.{suc, ◌≤◌}
 use lib.ListN.{length}
 use Rattle.rules.specs.Kinds.{faces_of}
 use Rattle.rules.specs.Sizes.{top}
-use Rattle.txr.proofs.Listings.{Lined, lined-first, lined-more, level-numbers}
-use borrow.Author.Rules.{rules}
+use Rattle.txr.proofs.Listings.{lined-first, lined-more, level-numbers}
 use Rattle.txr.proofs.listing.level_lines.Goals as goal
 use Rattle.txr.proofs.listing.level_lines.Goals.{In-loop-m}
 

@@ -1,12 +1,6 @@
 -- `txr::listing::level_lines`: a line for each level passed.
-use native.Mathlib.Omega.{arith}
-use mathlib.Core.Path.{◌≡◌}
-use Prim.Native.Nat.{suc, ◌+◌, ◌-◌, ◌≤◌}
-use lib.ListN.{length}
-use Rattle.rules.specs.Kinds.{faces_of}
-use Rattle.rules.specs.Sizes.{top}
-use Rattle.txr.proofs.Listings.{Lined, lined-first, lined-more, level-numbers}
-use borrow.Author.Rules.{rules}
+use Prim.Native.Nat.{◌+◌, ◌-◌}
+use Rattle.txr.proofs.Listings.{Lined}
 use Rattle.txr.proofs.listing.level_lines.Given as goal
 
 abbrev pub invariant-loop-m : goal.invariant-loop-m

@@ -3,7 +3,6 @@ use native.Mathlib.Omega.{arith}
 use mathlib.Core.Path.{sym, ◌∙◌}
 use Rattle.txr.proofs.Spelling.{length-refused}
 use Rattle.txr.proofs.Listings.{places-most, picture-parsed, refused-listed, listed}
-use borrow.Author.Rules.{rules}
 use Rattle.txr.proofs.listing.list.Goals as goal
 
 pub list_levels-requires : goal.list_levels-requires
@@ -16,9 +15,9 @@ refused-requires c = let n = c.in-Refused.n in omega (arith, length-refused n, p
 
 pub returns-in-Picture : goal.returns-in-Picture
 returns-in-Picture c = let all = listed c.list_levels.ensures in record {
-      answer = all.0;
-      leaves = all.1;
-    }
+  answer = all.0;
+  leaves = all.1;
+}
 
 pub returns-in-Refused-clause-answer : goal.returns-in-Refused-clause-answer
 returns-in-Refused-clause-answer c = rw (← refused-listed c.args.input.now _ (sym c.parse.ensures.answer ∙ c.in-Refused.is)) (listed c.refused.ensures).0

@@ -1,7 +1,6 @@
 -- `txr::listing::list_levels` meets its contract: the chain that is listed is that of the file.
 use native.Mathlib.Omega.{arith}
 use Rattle.txr.proofs.Listings.{level0-size, load-asked, chain-asked, lines-found}
-use borrow.Author.Rules.{rules}
 use Rattle.txr.proofs.listing.list_levels.Goals as goal
 
 pub overflow_sub-input : goal.overflow_sub-input
