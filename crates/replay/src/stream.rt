@@ -1,6 +1,6 @@
 // What the buffers hold before a call, by a record's seed, and the sum over a buffer after it. No buffer is longer than 8192.
 ghost use Rattle.std.specs.Prelude.{◌≡◌, ◌≤◌, ◌<◌, length};
-ghost use Rattle.io.specs.Counts.{IsPrefixLen};
+ghost use Rattle.std.specs.Counts.{IsPrefixLen};
 
 use crate::words::{Record, wide};
 
