@@ -10,5 +10,5 @@ first_listings (suc n) (a ∷ []) = []
 first_listings (suc n) (a ∷ (b ∷ rest)) = listing_of (take (a + b * 256) rest) ++ first_listings n (drop (a + b * 256) rest)
 
 -- the listings of all: there are no more than bytes
-unfoldable pub listings_of : List ℕ → List ℕ
+abbrev pub listings_of : List ℕ → List ℕ
 listings_of runs = first_listings (length runs) runs

@@ -2,7 +2,7 @@
 // tools/listing_runs.py makes the stored stdin and stdout, the answers from document 01's text alone.
 #![tactic(auto)]
 
-ghost use Rattle.std.specs.Prelude.{◌≡◌, min, take, IfSome, OnOk};
+ghost use Rattle.std.specs.Prelude.{◌≡◌, min, take, IfOk, IfSome, OnOk};
 ghost use Rattle.std.specs.Io.KnownBytes.{Appends};
 ghost use Rattle.txr.specs.Listing.{listing_of};
 ghost use Rattle.listing_runs.specs.Runs.{listings_of};
@@ -44,15 +44,23 @@ fn show_all<W: Write>(runs: &[u8], writer: &mut W) -> io::Result<()>
     Ok(())
 }
 
-// The listings of all that it reads.
-fn list<R: Read + Drop, W: Write>(alloc: Global, reader: R, writer: &mut W) -> io::Result<()>
-    ensures { OnOk result (IfSome (R.remaining reader) (λ runs. Appends (W.contents writer.old) (W.contents writer.new) (listings_of (take 65536 runs)))) }
+// What it reads, to the end of the input or as far as the most that is read.
+fn read_runs<R: Read + Drop>(alloc: Global, reader: R) -> io::Result<Vec<u8>>
+    ensures { IfOk result (λ runs. IfSome (R.remaining reader) (λ input. runs.items ≡ take 65536 input)) }
 {
     let mut runs = Vec::new(alloc);
     reader.take(MOST).read_to_end(&mut runs)?;
+    Ok(runs)
+}
+
+// Writes the listings of all that it reads.
+fn list_all<R: Read + Drop, W: Write>(alloc: Global, reader: R, writer: &mut W) -> io::Result<()>
+    ensures { OnOk result (IfSome (R.remaining reader) (λ input. Appends (W.contents writer.old) (W.contents writer.new) (listings_of (take 65536 input)))) }
+{
+    let runs = read_runs(alloc, reader)?;
     show_all(&runs, writer)
 }
 
 fn main(rt: HostRuntime) -> io::Result<()> {
-    list(rt.alloc(), rt.reader(), &mut io::writer(&rt))
+    list_all(rt.alloc(), rt.reader(), &mut io::writer(&rt))
 }
