@@ -54,13 +54,16 @@ fn agreed_one<W: Write>(record: &Record, number: u32, wrong: u32, writer: &mut W
 }
 
 // Replays so many records, or as many as there are, and answers how many agree.
-fn replay<R: Read, W: Write>(reader: &mut R, count: u32, writer: &mut W) -> io::Result<u32> {
+fn replay<R: Read, W: Write>(reader: &mut R, count: u32, writer: &mut W) -> io::Result<u32>
+    ensures { IfOk result (λ agreed. agreed ≤ count) }
+{
     let mut record = [0u32; 36];
     let mut agreed = 0u32;
-    let mut number = 0u32;
-    while number < count && read_record(reader, &mut record)? {
+    for number in 0..count {
+        if !read_record(reader, &mut record)? {
+            break;
+        }
         agreed += agreed_one(&record, number, number - agreed, writer)?;
-        number += 1;
     }
     Ok(agreed)
 }
