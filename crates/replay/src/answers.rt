@@ -14,10 +14,8 @@ pub fn four_words(a: u32, b: u32, c: u32, d: u32) -> [u32; 12] {
 // Twelve floats of an answer.
 fn twelve_floats(x: &[f32; 12]) -> [u32; 12] {
     let mut words = [0u32; 12];
-    let mut i = 0usize;
-    while i < 12 {
+    for i in 0..12 {
         words[i] = bits(x[i]);
-        i += 1;
     }
     words
 }
@@ -27,12 +25,10 @@ pub fn agrees(record: &Record, refusal: u32, words: &[u32; 12], sum: u32) -> boo
     if record[22] != refusal {
         return false;
     }
-    let mut i = 0usize;
-    while i < 12 {
+    for i in 0..12 {
         if record[23 + i] != words[i] {
             return false;
         }
-        i += 1;
     }
     record[35] == sum
 }

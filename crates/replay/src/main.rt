@@ -11,75 +11,78 @@ mod samples;
 mod stream;
 mod words;
 
-ghost use Rattle.std.specs.Prelude.{◌≤◌};
+ghost use Rattle.std.specs.Prelude.{◌≤◌, decimal, IfOk, OnOk};
+ghost use Rattle.std.specs.Io.KnownBytes.{Appends};
 
-use libc::STDOUT_FILENO;
+use std::io::{ErrorKind, Read, Write};
+use std::{fs, io};
 use words::Record;
 
 // Reads the next record, or the head, which is as long; false where the list ends.
-fn read_record(fd: i32, record: &mut Record) -> bool {
+fn read_record<R: Read>(reader: &mut R, record: &mut Record) -> io::Result<bool> {
     let mut bytes = [0u8; 144];
-    let n = io::read_full(fd, &mut bytes);
-    if n < 144 {
-        return false;
+    match reader.read_exact(&mut bytes) {
+        Ok(()) => {
+            *record = words::words(&bytes);
+            Ok(true)
+        }
+        Err(e) if e.kind() == ErrorKind::UnexpectedEof => Ok(false),
+        Err(e) => Err(e),
     }
-    *record = words::words(&bytes);
-    true
 }
 
 // Writes a number.
-fn print(number: u32) {
-    io::print_decimal(STDOUT_FILENO, number as u64);
+fn print<W: Write>(number: u32, writer: &mut W) -> io::Result<()>
+    ensures { OnOk result (Appends (W.contents writer.old) (W.contents writer.new) (decimal number)) }
+{
+    write!(writer, "{number}")
 }
 
 // Asks a record's call and answers 1 where it agrees, else 0. The first eight that do not are named.
-fn agreed_one(record: &Record, number: u32, wrong: u32) -> u32
-    ensures { result ≤ 1 }
+fn agreed_one<W: Write>(record: &Record, number: u32, wrong: u32, writer: &mut W) -> io::Result<u32>
+    ensures { IfOk result (λ agreed. agreed ≤ 1) }
 {
     if asks::record_agrees(record) {
-        return 1;
+        return Ok(1);
     }
     if wrong < 8 {
-        io::write_all(STDOUT_FILENO, b"record ");
-        print(number);
-        io::write_all(STDOUT_FILENO, b" does not agree\n");
+        writer.write_all(b"record ")?;
+        print(number, writer)?;
+        writer.write_all(b" does not agree\n")?;
     }
-    0
+    Ok(0)
 }
 
 // Replays so many records, or as many as there are, and answers how many agree.
-fn replay(fd: i32, count: u32) -> u32 {
+fn replay<R: Read, W: Write>(reader: &mut R, count: u32, writer: &mut W) -> io::Result<u32>
+    ensures { IfOk result (λ agreed. agreed ≤ count) }
+{
     let mut record = [0u32; 36];
     let mut agreed = 0u32;
-    let mut number = 0u32;
-    while number < count && read_record(fd, &mut record) {
-        agreed += agreed_one(&record, number, number - agreed);
-        number += 1;
+    for number in 0..count {
+        if !read_record(reader, &mut record)? {
+            break;
+        }
+        agreed += agreed_one(&record, number, number - agreed, writer)?;
     }
-    agreed
+    Ok(agreed)
 }
 
 // Replays a list that is open, where its head is one: the mark SWAN, version 1, 36 words a record.
-fn replay_list(fd: i32) {
+fn replay_list<R: Read, W: Write>(reader: &mut R, writer: &mut W) -> io::Result<()> {
     let mut head = [0u32; 36];
-    let is_whole = read_record(fd, &mut head);
+    let is_whole = read_record(reader, &mut head)?;
     if !is_whole || head[0] != 0x4E415753 || head[1] != 1 || head[3] != 36 {
-        io::write_all(STDOUT_FILENO, b"not a list of answers\n");
-        return;
+        return writer.write_all(b"not a list of answers\n");
     }
-    print(replay(fd, head[2]));
-    io::write_all(STDOUT_FILENO, b" of ");
-    print(head[2]);
-    io::write_all(STDOUT_FILENO, b" agree\n");
+    let agreed = replay(reader, head[2], writer)?;
+    print(agreed, writer)?;
+    writer.write_all(b" of ")?;
+    print(head[2], writer)?;
+    writer.write_all(b" agree\n")
 }
 
-fn main() {
-    let path = b"answers.bin";
-    let fd = os::open_read(path);
-    if fd < 0 {
-        os::fail(path);
-        return;
-    }
-    replay_list(fd);
-    libc::close(fd);
+fn main(rt: HostRuntime) -> io::Result<()> {
+    let mut list = fs::open(&rt, "answers.bin")?;
+    replay_list(&mut list, &mut io::writer(&rt))
 }

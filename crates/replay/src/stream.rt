@@ -1,6 +1,6 @@
 // What the buffers hold before a call, by a record's seed, and the sum over a buffer after it. No buffer is longer than 8192.
 ghost use Rattle.std.specs.Prelude.{◌≡◌, ◌≤◌, ◌<◌, length};
-ghost use Rattle.io.specs.Counts.{IsPrefixLen};
+ghost use Rattle.std.specs.Counts.{IsPrefixLen};
 
 use crate::words::{Record, wide};
 
@@ -27,12 +27,10 @@ fn texels_of_seed(seed: u32, n: usize) -> Texels
 {
     let mut texels = [0u32; 8192];
     let mut number = seed as u64;
-    let mut i = 0usize;
-    while i < n {
+    for i in 0..n {
         let above = next(number);
         number = next(above);
         texels[i] = texel(above, number);
-        i += 1;
     }
     texels
 }
@@ -42,10 +40,8 @@ fn texels_written(record: &Record) -> Texels
     ensures { 8192 ≡ length result }
 {
     let mut texels = [0u32; 8192];
-    let mut i = 0usize;
-    while i < 16 {
+    for i in 0..16 {
         texels[i] = record[6 + i];
-        i += 1;
     }
     texels
 }
@@ -69,11 +65,9 @@ pub fn bytes_of(seed: u32, n: usize) -> [u8; 8192]
 {
     let mut bytes = [0u8; 8192];
     let mut number = seed as u64;
-    let mut i = 0usize;
-    while i < n {
+    for i in 0..n {
         number = next(number);
         bytes[i] = (number % 256) as u8;
-        i += 1;
     }
     bytes
 }
@@ -94,10 +88,8 @@ fn with_texel(sum: u32, texel: u32) -> u32 {
 // The sum over a whole buffer of texels, from 1.
 pub fn sum_of(texels: &[u32]) -> u32 {
     let mut sum = 1u32;
-    let mut i = 0usize;
-    while i < texels.len() {
-        sum = with_texel(sum, texels[i]);
-        i += 1;
+    for texel in texels {
+        sum = with_texel(sum, *texel);
     }
     sum
 }
@@ -105,10 +97,8 @@ pub fn sum_of(texels: &[u32]) -> u32 {
 // The sum over a whole buffer of bytes, from 1.
 pub fn sum_of_bytes(bytes: &[u8]) -> u32 {
     let mut sum = 1u32;
-    let mut i = 0usize;
-    while i < bytes.len() {
-        sum = with_texel(sum, wide(bytes[i]));
-        i += 1;
+    for byte in bytes {
+        sum = with_texel(sum, wide(*byte));
     }
     sum
 }

@@ -23,10 +23,8 @@ fn word(bytes: &[u8; 144], at: usize) -> u32
 // The words of a record's bytes.
 pub fn words(bytes: &[u8; 144]) -> Record {
     let mut record = [0u32; 36];
-    let mut i = 0usize;
-    while i < 36 {
+    for i in 0..36 {
         record[i] = word(bytes, 4 * i);
-        i += 1;
     }
     record
 }
