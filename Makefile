@@ -23,7 +23,7 @@ test:
 
 # The archive that C and Rust link. rt proves what has changed since it was last proved.
 archive:
-	@rt staticlib station > /dev/null
+	@tools/archive
 
 target/chain target/ranges: target/%: tools/%.c tools/txr.h include/swathecold.h | archive
 	@$(MACHINE) && can $@ "$$no_c" && $${cross_cc:-$(CC)} $(CFLAGS) $< $(ARCHIVE) -o $@

@@ -21,7 +21,7 @@ fn link_the_unit() {
     let archive = folder.join("libstation.a");
     assert!(
         archive.is_file(),
-        "{} is not there: run `rt staticlib station`, or set SWATHECOLD_LIB to the folder that has it",
+        "{} is not there: run `make archive`, or set SWATHECOLD_LIB to the folder that has it",
         archive.display()
     );
     println!("cargo:rerun-if-changed={}", archive.display());

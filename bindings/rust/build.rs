@@ -1,6 +1,7 @@
-//! Links libstation.a: from the folder that SWATHECOLD_LIB names, or else built here by `rt staticlib station`.
+//! Links libstation.a: from the folder that SWATHECOLD_LIB names, or else built here by `tools/archive`.
 
 use std::env;
+use std::fs;
 use std::path::{Path, PathBuf};
 use std::process::{exit, Command};
 
@@ -28,19 +29,28 @@ fn built() -> PathBuf {
     let here = PathBuf::from(env::var_os("CARGO_MANIFEST_DIR").expect("cargo names the crate's folder"));
     let root = here.join("../..").canonicalize().unwrap_or_else(|_| here.clone());
     if !root.join("crates.txt").is_file() {
-        stop("this crate was taken out of its repository: build libstation.a there (`rt staticlib station`)");
+        stop("this crate was taken out of its repository: build libstation.a there (`make archive`)");
     }
-    println!("cargo:rerun-if-changed={}", root.join("crates").display());
     println!("cargo:rerun-if-changed={}", root.join("crates.txt").display());
+    for part in parts(&root.join("crates")) {
+        println!("cargo:rerun-if-changed={}", part.display());
+    }
     prove(&root);
     root.join("target/staticlib")
 }
 
+/// What the crates are made of; what rt writes beside it changes at every build.
+fn parts(crates: &Path) -> Vec<PathBuf> {
+    let folders = fs::read_dir(crates).into_iter().flatten().flatten();
+    let parts = folders.flat_map(|it| ["src", "specs", "proofs"].map(|part| it.path().join(part)));
+    parts.filter(|it| it.is_dir()).collect()
+}
+
 fn prove(root: &Path) {
-    match Command::new("rt").args(["staticlib", "station"]).current_dir(root).output() {
+    match Command::new(root.join("tools/archive")).output() {
         Ok(done) if done.status.success() => {}
-        Ok(done) => stop(&format!("`rt staticlib station` failed:\n{}", String::from_utf8_lossy(&done.stdout))),
-        Err(why) => stop(&format!("`rt`, the Rattle toolchain, cannot be run ({why})")),
+        Ok(done) => stop(&format!("`tools/archive` failed:\n{}", String::from_utf8_lossy(&done.stderr))),
+        Err(why) => stop(&format!("`tools/archive` cannot be run ({why})")),
     }
 }
 

@@ -6,8 +6,7 @@ ghost use Rattle.station.specs.Written.{bytes_number, bytes_written};
 
 use crate::written::bytes_out;
 
-#[unsafe(no_mangle)]
-pub extern "C" fn swathecold_build_ranges(
+pub fn swathecold_build_ranges(
     kind: u32,
     width: u32,
     height: u32,
@@ -25,8 +24,7 @@ pub extern "C" fn swathecold_build_ranges(
     )
 }
 
-#[unsafe(no_mangle)]
-pub extern "C" fn swathecold_replace_texel(
+pub fn swathecold_replace_texel(
     kind: u32,
     width: u32,
     height: u32,

@@ -5,8 +5,7 @@ ghost use Rattle.station.specs.Written.{checked_number, verdict_written};
 
 use crate::written::checked_out;
 
-#[unsafe(no_mangle)]
-pub extern "C" fn swathecold_check_chain(
+pub fn swathecold_check_chain(
     kind: u32,
     width: u32,
     height: u32,
@@ -23,8 +22,7 @@ pub extern "C" fn swathecold_check_chain(
     )
 }
 
-#[unsafe(no_mangle)]
-pub extern "C" fn swathecold_check_level(
+pub fn swathecold_check_level(
     kind: u32,
     width: u32,
     height: u32,

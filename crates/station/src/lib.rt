@@ -1,4 +1,4 @@
-// The C boundary: what a station links. Each export is one call of the unit: numbers in, a refusal number out, 0 where it was done.
+// The boundary in the words of C, which station_c exports. Each call is one of the unit: numbers in, a refusal number out, 0 where it was done.
 #![tactic(auto)]
 
 pub mod beside;

@@ -5,8 +5,7 @@ ghost use Rattle.station.specs.Written.{light_number, light_written};
 
 use crate::written::light_out;
 
-#[unsafe(no_mangle)]
-pub extern "C" fn swathecold_irradiance_sh4(
+pub fn swathecold_irradiance_sh4(
     kind: u32,
     width: u32,
     height: u32,

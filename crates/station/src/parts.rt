@@ -7,8 +7,7 @@ ghost use Rattle.station.specs.Written.{pair_of, sizes_number, sizes_written, fi
 use crate::written::{filled_out, sizes_out};
 use rules::{Pair, Sizes};
 
-#[unsafe(no_mangle)]
-pub extern "C" fn swathecold_level_sizes(
+pub fn swathecold_level_sizes(
     kind: u32,
     width: u32,
     height: u32,
@@ -21,8 +20,7 @@ pub extern "C" fn swathecold_level_sizes(
     sizes_out(texture::level_sizes(kind, width, height, level), sizes)
 }
 
-#[unsafe(no_mangle)]
-pub extern "C" fn swathecold_generate_mipmaps(
+pub fn swathecold_generate_mipmaps(
     kind: u32,
     width: u32,
     height: u32,
@@ -40,8 +38,7 @@ pub extern "C" fn swathecold_generate_mipmaps(
     )
 }
 
-#[unsafe(no_mangle)]
-pub extern "C" fn swathecold_cut_cross(
+pub fn swathecold_cut_cross(
     width: u32,
     height: u32,
     bytes: &[u8],
@@ -55,8 +52,7 @@ pub extern "C" fn swathecold_cut_cross(
     filled_out(texture::cut_cross(width, height, bytes, faces), written)
 }
 
-#[unsafe(no_mangle)]
-pub extern "C" fn swathecold_cut(
+pub fn swathecold_cut(
     kind: u32,
     width: u32,
     height: u32,
@@ -88,8 +84,7 @@ pub extern "C" fn swathecold_cut(
 }
 
 // The view is a place at this boundary: where the part starts, and how long it is.
-#[unsafe(no_mangle)]
-pub extern "C" fn swathecold_level_view(
+pub fn swathecold_level_view(
     kind: u32,
     width: u32,
     height: u32,

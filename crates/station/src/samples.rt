@@ -7,8 +7,7 @@ use crate::lanes::{directions, lanes, wholes};
 use crate::written::{alpha_out, colour_out, facing_out, level_out};
 use rules::Sampler;
 
-#[unsafe(no_mangle)]
-pub extern "C" fn swathecold_compute_mip_level(
+pub fn swathecold_compute_mip_level(
     width: u32,
     height: u32,
     steps: &[f32; 4],
@@ -23,8 +22,7 @@ pub extern "C" fn swathecold_compute_mip_level(
     )
 }
 
-#[unsafe(no_mangle)]
-pub extern "C" fn swathecold_sample4_rgb(
+pub fn swathecold_sample4_rgb(
     kind: u32,
     width: u32,
     height: u32,
@@ -55,8 +53,7 @@ pub extern "C" fn swathecold_sample4_rgb(
     )
 }
 
-#[unsafe(no_mangle)]
-pub extern "C" fn swathecold_sample4_alpha(
+pub fn swathecold_sample4_alpha(
     kind: u32,
     width: u32,
     height: u32,
@@ -87,8 +84,7 @@ pub extern "C" fn swathecold_sample4_alpha(
     )
 }
 
-#[unsafe(no_mangle)]
-pub extern "C" fn swathecold_sample_bilinear_rgb(
+pub fn swathecold_sample_bilinear_rgb(
     kind: u32,
     width: u32,
     height: u32,
@@ -121,8 +117,7 @@ pub extern "C" fn swathecold_sample_bilinear_rgb(
     )
 }
 
-#[unsafe(no_mangle)]
-pub extern "C" fn swathecold_sample_bilinear_alpha(
+pub fn swathecold_sample_bilinear_alpha(
     kind: u32,
     width: u32,
     height: u32,
@@ -153,8 +148,7 @@ pub extern "C" fn swathecold_sample_bilinear_alpha(
     )
 }
 
-#[unsafe(no_mangle)]
-pub extern "C" fn swathecold_cubemap_uv_from_normal(
+pub fn swathecold_cubemap_uv_from_normal(
     x: &[f32; 4],
     y: &[f32; 4],
     z: &[f32; 4],
@@ -172,8 +166,7 @@ pub extern "C" fn swathecold_cubemap_uv_from_normal(
     )
 }
 
-#[unsafe(no_mangle)]
-pub extern "C" fn swathecold_sample_cubemap_rgb(
+pub fn swathecold_sample_cubemap_rgb(
     kind: u32,
     width: u32,
     height: u32,
@@ -200,8 +193,7 @@ pub extern "C" fn swathecold_sample_cubemap_rgb(
     )
 }
 
-#[unsafe(no_mangle)]
-pub extern "C" fn swathecold_sample_cubemap_trilinear_rgb(
+pub fn swathecold_sample_cubemap_trilinear_rgb(
     kind: u32,
     width: u32,
     height: u32,

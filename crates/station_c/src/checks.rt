@@ -1,0 +1,35 @@
+// The check of another tool's chain, exported: of all its levels, and of one.
+ghost use Rattle.std.specs.Prelude.{◌≡◌};
+ghost use Rattle.rules.specs.Answers.{check_chain_answer, check_level_answer};
+ghost use Rattle.station.specs.Written.{checked_number, verdict_written};
+
+#[unsafe(no_mangle)]
+pub extern "C" fn swathecold_check_chain(
+    kind: u32,
+    width: u32,
+    height: u32,
+    mode: u32,
+    texels: &[u32],
+    verdict: &mut [u64; 2],
+) -> u32
+    ensures number { result ≡ checked_number (check_chain_answer kind width height mode texels.now) }
+    ensures writes { verdict.new ≡ verdict_written (check_chain_answer kind width height mode texels.now) verdict.old }
+{
+    station::checks::swathecold_check_chain(kind, width, height, mode, texels, verdict)
+}
+
+#[unsafe(no_mangle)]
+pub extern "C" fn swathecold_check_level(
+    kind: u32,
+    width: u32,
+    height: u32,
+    mode: u32,
+    texels: &[u32],
+    level: u32,
+    verdict: &mut [u64; 2],
+) -> u32
+    ensures number { result ≡ checked_number (check_level_answer kind width height mode texels.now level) }
+    ensures writes { verdict.new ≡ verdict_written (check_level_answer kind width height mode texels.now level) verdict.old }
+{
+    station::checks::swathecold_check_level(kind, width, height, mode, texels, level, verdict)
+}

@@ -1,0 +1,8 @@
+// The C boundary: what a station links. Each export is the call of that name in `station`, and promises the same.
+#![tactic(auto)]
+
+mod beside;
+mod checks;
+mod light;
+mod parts;
+mod samples;

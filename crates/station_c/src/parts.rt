@@ -1,0 +1,90 @@
+// Sizes, the chain, the view, the cut and the cross, exported.
+ghost use Rattle.std.specs.Prelude.{◌≡◌, length};
+ghost use Rattle.rules.specs.Refusals.{view_refusal};
+ghost use Rattle.rules.specs.Answers.{level_sizes_answer, chain_answer, chain_leaves, cut_answer, cut_leaves, cross_answer, cross_leaves};
+ghost use Rattle.station.specs.Written.{pair_of, sizes_number, sizes_written, filled_number, filled_written, view_written};
+
+#[unsafe(no_mangle)]
+pub extern "C" fn swathecold_level_sizes(
+    kind: u32,
+    width: u32,
+    height: u32,
+    level: u32,
+    sizes: &mut [u64; 4],
+) -> u32
+    ensures number { result ≡ sizes_number (level_sizes_answer kind width height level) }
+    ensures writes { sizes.new ≡ sizes_written (level_sizes_answer kind width height level) sizes.old }
+{
+    station::parts::swathecold_level_sizes(kind, width, height, level, sizes)
+}
+
+#[unsafe(no_mangle)]
+pub extern "C" fn swathecold_generate_mipmaps(
+    kind: u32,
+    width: u32,
+    height: u32,
+    mode: u32,
+    texels: &mut [u32],
+    written: &mut u64,
+) -> u32
+    ensures number { result ≡ filled_number (chain_answer kind width height mode texels.old) }
+    ensures writes { written.new ≡ filled_written (chain_answer kind width height mode texels.old) written.old }
+    ensures leaves { texels.new ≡ chain_leaves kind width height mode texels.old }
+{
+    station::parts::swathecold_generate_mipmaps(kind, width, height, mode, texels, written)
+}
+
+#[unsafe(no_mangle)]
+pub extern "C" fn swathecold_cut_cross(
+    width: u32,
+    height: u32,
+    bytes: &[u8],
+    faces: &mut [u32],
+    written: &mut u64,
+) -> u32
+    ensures number { result ≡ filled_number (cross_answer width height bytes.now faces.old) }
+    ensures writes { written.new ≡ filled_written (cross_answer width height bytes.now faces.old) written.old }
+    ensures leaves { faces.new ≡ cross_leaves width height bytes.now faces.old }
+{
+    station::parts::swathecold_cut_cross(width, height, bytes, faces, written)
+}
+
+#[unsafe(no_mangle)]
+pub extern "C" fn swathecold_cut(
+    kind: u32,
+    width: u32,
+    height: u32,
+    source: &[u32],
+    order: u32,
+    corner_x: u32,
+    corner_y: u32,
+    cut_width: u32,
+    cut_height: u32,
+    target: &mut [u32],
+    written: &mut u64,
+) -> u32
+    ensures number { result ≡ filled_number (cut_answer kind width height source.now order (pair_of corner_x corner_y) (pair_of cut_width cut_height) target.old) }
+    ensures writes { written.new ≡ filled_written (cut_answer kind width height source.now order (pair_of corner_x corner_y) (pair_of cut_width cut_height) target.old) written.old }
+    ensures leaves { target.new ≡ cut_leaves kind width height source.now order (pair_of corner_x corner_y) (pair_of cut_width cut_height) target.old }
+{
+    station::parts::swathecold_cut(
+        kind, width, height, source, order, corner_x, corner_y, cut_width, cut_height, target,
+        written,
+    )
+}
+
+#[unsafe(no_mangle)]
+pub extern "C" fn swathecold_level_view(
+    kind: u32,
+    width: u32,
+    height: u32,
+    texels: &[u32],
+    level: u32,
+    face: u32,
+    part: &mut [u64; 2],
+) -> u32
+    ensures number { result ≡ view_refusal kind width height (length texels.now) level face }
+    ensures writes { part.new ≡ view_written kind width height (length texels.now) level face part.old }
+{
+    station::parts::swathecold_level_view(kind, width, height, texels, level, face, part)
+}
