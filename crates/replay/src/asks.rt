@@ -1,7 +1,7 @@
 // A record's call, by its number: the buffers that it is lent, and the call itself.
 use crate::stream::texels_of;
 use crate::words::{Record, length};
-use crate::{checks, light, parts, ranges, samples};
+use crate::{checks, light, parts, range_calls, samples};
 
 // A call that reads texels, over them. A number that no call has agrees with nothing.
 fn reading_agrees(record: &Record, texels: &[u32]) -> bool {
@@ -15,7 +15,7 @@ fn reading_agrees(record: &Record, texels: &[u32]) -> bool {
         9 => samples::sample_bilinear_alpha_agrees(record, texels),
         11 => samples::sample_cubemap_rgb_agrees(record, texels),
         12 => samples::sample_cubemap_trilinear_rgb_agrees(record, texels),
-        13 => ranges::build_ranges_agrees(record, texels),
+        13 => range_calls::build_ranges_agrees(record, texels),
         15 => light::irradiance_sh4_agrees(record, texels),
         _ => false,
     }
@@ -31,7 +31,7 @@ fn lent_agrees(record: &Record) -> bool {
     let call = record[0];
     match call {
         1 => parts::generate_mipmaps_agrees(record, &mut texels[..n]),
-        14 => ranges::replace_texel_agrees(record, &mut texels[..n]),
+        14 => range_calls::replace_texel_agrees(record, &mut texels[..n]),
         16 => checks::check_chain_agrees(record, &mut texels[..n]),
         17 => checks::check_level_agrees(record, &mut texels[..n]),
         _ => reading_agrees(record, &texels[..n]),

@@ -6,7 +6,7 @@ mod asks;
 mod checks;
 mod light;
 mod parts;
-mod ranges;
+mod range_calls;
 mod samples;
 mod stream;
 mod words;
