@@ -38,8 +38,8 @@ pub fn reduce_without_table(
 
 // n texels of a row, from pairs of the two rows above, by the same codes.
 pub fn row_without_table(kind: u32, packing: Packing, n: usize, a: &[u32], b: &[u32], o: &mut [u32])
-    requires kind_nonzero { 0 < kind }
-    requires n_in_bounds { (n ≤ length o.old) × (2 * n ≤ length a.now) × (2 * n ≤ length b.now) }
+    requires no_table { 0 < kind }
+    requires room { (n ≤ length o.old) × (2 * n ≤ length a.now) × (2 * n ≤ length b.now) }
     ensures { o.new ≡ over 0 o.old n (pair_of (reduce_of kind packing) a.now b.now) }
 {
     match kind {

@@ -71,8 +71,8 @@ fn bytes_at(i: usize, bytes: &[u8]) -> u32
 
 // n texels of the bytes, from texel `from` on, put at `to`.
 fn put_bytes(n: usize, from: usize, bytes: &[u8], to: usize, faces: &mut [u32])
-    requires n_in_bounds { (from + n) * 4 ≤ length bytes.now }
-    requires n_in_bounds_2 { to + n ≤ length faces.old }
+    requires bytes_room { (from + n) * 4 ≤ length bytes.now }
+    requires faces_room { to + n ≤ length faces.old }
     ensures { faces.new ≡ over to faces.old n (λ x. bytes_at bytes.now (from + x)) }
 {
     let mut x = 0;
@@ -84,9 +84,9 @@ fn put_bytes(n: usize, from: usize, bytes: &[u8], to: usize, faces: &mut [u32])
 
 // Writes the rows of the six faces one after the other; leftover columns and rows of the cross are ignored.
 fn write_faces(width: usize, height: usize, bytes: &[u8], faces: &mut [u32])
-    requires le_width { (4 ≤ width) × (width < 16388) × (3 ≤ height) × (height < 12291) }
-    requires width_in_bounds { height * width * 4 ≤ length bytes.now }
-    requires width_in_bounds_2 { 6 * cross_height height * cross_width width ≤ length faces.old }
+    requires sides { (4 ≤ width) × (width < 16388) × (3 ≤ height) × (height < 12291) }
+    requires bytes_room { height * width * 4 ≤ length bytes.now }
+    requires faces_room { 6 * cross_height height * cross_width width ≤ length faces.old }
     ensures { faces.new ≡ over 0 faces.old (6 * cross_height height * cross_width width) (cross_cell width height bytes.now) }
 {
     let w = width / 4;

@@ -76,9 +76,9 @@ fn cut_refusal(
 
 // Writes the cut's rows one after the other. The source's level 0 is w wide.
 fn write_cut(w: usize, corner: Pair, sides: Pair, source: &[u32], target: &mut [u32])
-    requires x_bound { corner.x + sides.x ≤ w }
-    requires w_in_bounds { (corner.y + sides.y) * w ≤ length source.now }
-    requires x_in_bounds { sides.y * sides.x ≤ length target.old }
+    requires across { corner.x + sides.x ≤ w }
+    requires source_room { (corner.y + sides.y) * w ≤ length source.now }
+    requires target_room { sides.y * sides.x ≤ length target.old }
     ensures { target.new ≡ over 0 target.old (sides.y * sides.x) (cut_cell w corner.x corner.y sides.x source.now) }
 {
     let x = corner.x as usize;

@@ -22,7 +22,7 @@ pub fn fill(
     s: &mut [u32],
 )
     requires sides { Sides faces w h }
-    requires le_left { (1 ≤ left) × (start faces w h left ≤ length s.old) }
+    requires room { (1 ≤ left) × (start faces w h left ≤ length s.old) }
     ensures { s.new ≡ filled (reduce_of kind packing) faces left w h s.old }
 {
     if 2 < left {

@@ -62,8 +62,8 @@ fn check_block(
     s: &[u32],
     made: &mut [u32],
 ) -> usize
-    requires le_w { (1 ≤ w) × (1 ≤ m) × (2 * m * w + m * half w ≤ 384) }
-    requires w_bound { (r0 + 2 * m * w ≤ at) × (at + m * half w ≤ length s.now) × (640 ≤ length made.old) }
+    requires block { (1 ≤ w) × (1 ≤ m) × (2 * m * w + m * half w ≤ 384) }
+    requires room { (r0 + 2 * m * w ≤ at) × (at + m * half w ≤ length s.now) × (640 ≤ length made.old) }
     ensures { Right at s.now (m * half w) (rows_of (reduce_of kind packing) w r0 (r0 + w) s.now) result }
 {
     let n = 2 * m * w;
@@ -85,8 +85,8 @@ pub fn check_rows(
     s: &[u32],
     made: &mut [u32],
 ) -> usize
-    requires le_w { (1 ≤ w) × (1 ≤ m) × (r0 + w ≤ at) × (r1 + w ≤ at) × (at + m * half w ≤ length s.now) × (640 ≤ length made.old) }
-    requires r1_value { ((blocks ≡ true) → (r1 ≡ r0 + w) × (r0 + 2 * m * w ≤ at) × (2 * m * w + m * half w ≤ 384)) × ((blocks ≡ false) → (m ≡ 1)) }
+    requires room { (1 ≤ w) × (1 ≤ m) × (r0 + w ≤ at) × (r1 + w ≤ at) × (at + m * half w ≤ length s.now) × (640 ≤ length made.old) }
+    requires shape { ((blocks ≡ true) → (r1 ≡ r0 + w) × (r0 + 2 * m * w ≤ at) × (2 * m * w + m * half w ≤ 384)) × ((blocks ≡ false) → (m ≡ 1)) }
     ensures { Right at s.now (m * half w) (rows_of (reduce_of kind packing) w r0 r1 s.now) result }
 {
     if blocks {

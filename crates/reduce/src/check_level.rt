@@ -13,7 +13,7 @@ use rules::Packing;
 // Behind the level at the front of s stands the next: how many of its texels are right before the first that is not.
 pub fn check_next(kind: u32, packing: Packing, faces: usize, w: usize, h: usize, s: &[u32]) -> usize
     requires sides { Sides faces w h }
-    requires w_in_bounds { faces * h * w + faces * half h * half w ≤ length s.now }
+    requires room { faces * h * w + faces * half h * half w ≤ length s.now }
     ensures { Right (faces * h * w) s.now (faces * half h * half w) (λ k. get_or (next (reduce_of kind packing) faces w h (take (faces * h * w) s.now)) k 0) result }
 {
     let w2 = halved(w);

@@ -26,8 +26,8 @@ fn check_part(
     s: &[u32],
     made: &mut [u32],
 ) -> usize
-    requires le_w { (1 ≤ w) × (w ≤ 256) × (m ≡ half w) }
-    requires w_bound { (r0 + w ≤ at) × (r1 + w ≤ at) × (at + m ≤ length s.now) × (640 ≤ length made.old) }
+    requires part { (1 ≤ w) × (w ≤ 256) × (m ≡ half w) }
+    requires room { (r0 + w ≤ at) × (r1 + w ≤ at) × (at + m ≤ length s.now) × (640 ≤ length made.old) }
     ensures { Right at s.now m (held_of (reduce_of kind packing) w (drop r0 s.now) (drop r1 s.now)) result }
 {
     put(w, 0, &s[r0..], made);
@@ -80,8 +80,8 @@ fn check_pairs(
     s: &[u32],
     made: &mut [u32],
 ) -> usize
-    requires le_m { (1 ≤ m) × (m ≤ 128) }
-    requires m_bound { (r0 + 2 * m ≤ at) × (r1 + 2 * m ≤ at) × (at + m ≤ length s.now) × (640 ≤ length made.old) }
+    requires few { (1 ≤ m) × (m ≤ 128) }
+    requires room { (r0 + 2 * m ≤ at) × (r1 + 2 * m ≤ at) × (at + m ≤ length s.now) × (640 ≤ length made.old) }
     ensures { Right at s.now m (pair_of (reduce_of kind packing) (drop r0 s.now) (drop r1 s.now)) result }
 {
     if told_by_wholes(kind, packing, m, r0, r1, at, s) {

@@ -54,7 +54,7 @@ pub fn rows_above(y: usize, w: usize, h: usize, h2: usize) -> Above
 // Writes the level after the level at the front of s behind it.
 pub fn write_next(kind: u32, packing: Packing, faces: usize, w: usize, h: usize, s: &mut [u32])
     requires sides { Sides faces w h }
-    requires w_in_bounds { faces * h * w + faces * half h * half w ≤ length s.old }
+    requires room { faces * h * w + faces * half h * half w ≤ length s.old }
     ensures { s.new ≡ written (reduce_of kind packing) faces w h s.old }
 {
     let w2 = halved(w);

@@ -37,10 +37,10 @@ fn part(
     to: usize,
     s: &mut [u32],
 ) -> usize
-    requires kind_nonzero { 0 < kind }
-    requires n_bound { (r0 + 2 * n ≤ to) × (r1 + 2 * n ≤ to) × (to + n ≤ length s.old) }
+    requires no_table { 0 < kind }
+    requires room { (r0 + 2 * n ≤ to) × (r1 + 2 * n ≤ to) × (to + n ≤ length s.old) }
     ensures count { result ≡ min n 64 }
-    ensures s_after { s.new ≡ over to s.old result (pair_of (reduce_of kind packing) (drop r0 s.old) (drop r1 s.old)) }
+    ensures leaves { s.new ≡ over to s.old result (pair_of (reduce_of kind packing) (drop r0 s.old) (drop r1 s.old)) }
 {
     let mut o = [0u32; 64];
     let m = least(n, 64);
@@ -54,7 +54,7 @@ fn part(
 fn srgb_part(packing: Packing, n: usize, r0: usize, r1: usize, to: usize, s: &mut [u32]) -> usize
     requires { (r0 + 2 * n ≤ to) × (r1 + 2 * n ≤ to) × (to + n ≤ length s.old) }
     ensures count { result ≡ min n 128 }
-    ensures s_after { s.new ≡ over to s.old result (pair_of (srgb_of packing) (drop r0 s.old) (drop r1 s.old)) }
+    ensures leaves { s.new ≡ over to s.old result (pair_of (srgb_of packing) (drop r0 s.old) (drop r1 s.old)) }
 {
     let mut o = [0u32; 128];
     let m = least(n, 128);

@@ -10,4 +10,4 @@ pub returns-in-2 : goal.returns-in-2
 returns-in-2 c = rw (of-metallic _ _ c.in-2.is) c.row-in-2.ensures
 
 pub returns-in_default : goal.returns-in_default
-returns-in_default c = rw (of-linear _ _ c.requires.kind_nonzero (omega arith) (omega arith)) c.row-in_default.ensures
+returns-in_default c = rw (of-linear _ _ c.requires.no_table (omega arith) (omega arith)) c.row-in_default.ensures

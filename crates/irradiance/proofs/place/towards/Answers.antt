@@ -1,4 +1,5 @@
 -- `irradiance::place::towards` meets its contract: each arm is its face.
+use native.Mathlib.Omega.{arith}
 use borrow.Author.Tests.{ne_eqb}
 use Rattle.rules.specs.Irradiance.{towards}
 use Rattle.irradiance.proofs.place.towards.Goals as goal
@@ -26,11 +27,10 @@ returns-in-4 c = rw c.in-4.is
 pub returns-in_default : goal.returns-in_default
 unfolding towards
 returns-in_default c =
-    let no = c.in_default.in_default-own.rest in
     rw (
-      ne_eqb _ _ no.0.0.0.0.1,
-      ne_eqb _ _ no.0.0.0.1,
-      ne_eqb _ _ no.0.0.1,
-      ne_eqb _ _ no.0.1,
-      ne_eqb _ _ no.1,
+      ne_eqb c.args.face 0 (omega arith),
+      ne_eqb c.args.face 1 (omega arith),
+      ne_eqb c.args.face 2 (omega arith),
+      ne_eqb c.args.face 3 (omega arith),
+      ne_eqb c.args.face 4 (omega arith),
     )

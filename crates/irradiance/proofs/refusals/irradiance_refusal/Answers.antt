@@ -7,7 +7,7 @@ use Rattle.rules.proofs.Refusing.{Taken, picture-facts, cube-taken, cube-refused
 use Rattle.rules.proofs.RefusingRanges.{level0-refused, level0-given}
 use Rattle.rules.proofs.RefusingIrradiance.{level0-cube, level0-flat, light-picture, light-short, light-kind}
 use Rattle.irradiance.proofs.refusals.irradiance_refusal.Goals as goal
-use Rattle.irradiance.proofs.refusals.irradiance_refusal.Goals.{In_default}
+use Rattle.irradiance.proofs.refusals.irradiance_refusal.Goals.{In_default, In_default-kind}
 
 pub returns-in-Refused : goal.returns-in-Refused
 returns-in-Refused c =
@@ -36,11 +36,15 @@ returns-else-texels-face c =
     let cube = c.in-3.is in
     sym (light-kind _ _ _ _ (fine (goal.at.returns-else-texels-face c).In_default) (rw (level0-cube _ _ _ cube) c.if-texels-face.false) ∙ cube-taken _ cube)
 
+-- no cubemap
+other : (c : goal.In_default-kind) → c.args.kind ≡ 3 → ⊥
+other c e = omega arith
+
 pub returns-then-texels-face-2 : goal.returns-then-texels-face-2
 returns-then-texels-face-2 c =
-    sym (light-short _ _ _ _ (fine (goal.at.returns-then-texels-face-2 c).In_default) (rw (level0-flat _ _ _ c.in_default-kind.in_default-kind-own.rest.1) c.if-texels-face-2.true))
+    sym (light-short _ _ _ _ (fine (goal.at.returns-then-texels-face-2 c).In_default) (rw (level0-flat _ _ _ (other (goal.at.returns-then-texels-face-2 c).In_default-kind)) c.if-texels-face-2.true))
 
 pub returns-else-texels-face-2 : goal.returns-else-texels-face-2
 returns-else-texels-face-2 c =
-    let other = c.in_default-kind.in_default-kind-own.rest.1 in
-    sym (light-kind _ _ _ _ (fine (goal.at.returns-else-texels-face-2 c).In_default) (rw (level0-flat _ _ _ other) c.if-texels-face-2.false) ∙ cube-refused _ other)
+    let flat = other (goal.at.returns-else-texels-face-2 c).In_default-kind in
+    sym (light-kind _ _ _ _ (fine (goal.at.returns-else-texels-face-2 c).In_default) (rw (level0-flat _ _ _ flat) c.if-texels-face-2.false) ∙ cube-refused _ flat)

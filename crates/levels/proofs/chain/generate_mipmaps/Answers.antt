@@ -29,7 +29,7 @@ fill-requires c =
     let faces = c.faces_of-faces.ensures in
     record {
       sides = omega (arith, faces, faces-some kind, faces-most kind, k.taken);
-      le_left = (omega arith, rw (faces, c.top_level.ensures, add-one) k.room);
+      room = (omega arith, rw (faces, c.top_level.ensures, add-one) k.room);
     }
 
 pub count_of-requires : goal.count_of-requires

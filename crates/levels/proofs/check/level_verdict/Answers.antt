@@ -59,7 +59,7 @@ pub check_next-right-requires : goal.check_next-right-requires
 check_next-right-requires c = let k = known (goal.at.check_next-right-requires c).Else-level-lt1 in
     record {
       sides = rw (c.faces_of-faces.ensures, c.side_at-w.ensures, c.side_at-h.ensures) k.sides;
-      w_in_bounds =
+      room =
           rw (part_to_end _ c.start_of-before.result, length-drop, c.start_of-before.ensures, c.faces_of-faces.ensures, c.side_at-w.ensures, c.side_at-h.ensures)
           (omega (arith, k.starts, k.ends, k.inside));
     }

@@ -1,4 +1,5 @@
 -- `levels::cross::column_of` meets its contract: each arm is its face.
+use native.Mathlib.Omega.{arith}
 use borrow.Author.Tests.{ne_eqb}
 use Rattle.rules.specs.Cross.{column_of}
 use Rattle.levels.proofs.cross.column_of.Goals as goal
@@ -18,5 +19,4 @@ returns-in-5 c = rw c.in-5.is
 pub returns-in_default : goal.returns-in_default
 unfolding column_of
 returns-in_default c =
-    let no = c.in_default.in_default-own.rest in
-    rw (ne_eqb _ _ no.0.0.1, ne_eqb _ _ no.0.1, ne_eqb _ _ no.1)
+    rw (ne_eqb c.args.face 0 (omega arith), ne_eqb c.args.face 1 (omega arith), ne_eqb c.args.face 5 (omega arith))

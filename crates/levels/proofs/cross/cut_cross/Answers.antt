@@ -22,9 +22,9 @@ pub write_faces-requires : goal.write_faces-requires
 write_faces-requires c =
     let k = known (goal.at.write_faces-requires c).Else-refusal-ne0 in
     record {
-      le_width = omega (arith, k.sides);
-      width_in_bounds = k.read;
-      width_in_bounds_2 = k.room;
+      sides = omega (arith, k.sides);
+      bytes_room = k.read;
+      faces_room = k.room;
     }
 
 pub overflow_mul-result-2 : goal.overflow_mul-result-2

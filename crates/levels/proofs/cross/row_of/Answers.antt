@@ -1,4 +1,5 @@
 -- `levels::cross::row_of` meets its contract: each arm is its face.
+use native.Mathlib.Omega.{arith}
 use borrow.Author.Tests.{ne_eqb}
 use Rattle.rules.specs.Cross.{row_of}
 use Rattle.levels.proofs.cross.row_of.Goals as goal
@@ -14,5 +15,4 @@ returns-in-3 c = rw c.in-3.is
 pub returns-in_default : goal.returns-in_default
 unfolding row_of
 returns-in_default c =
-    let no = c.in_default.in_default-own.rest in
-    rw (ne_eqb _ _ no.0.1, ne_eqb _ _ no.1)
+    rw (ne_eqb c.args.face 2 (omega arith), ne_eqb c.args.face 3 (omega arith))

@@ -12,7 +12,7 @@ overflow_mul-rows c = omega arith
 pub loop-y-init : goal.loop-y-init
 loop-y-init c =
     let p = c.requires in
-    faces-first _ _ _ _ (omega arith) p.width_in_bounds p.width_in_bounds_2
+    faces-first _ _ _ _ (omega arith) p.bytes_room p.faces_room
 
 pub nonzero_div-face : goal.nonzero_div-face
 nonzero_div-face c = omega arith
@@ -54,7 +54,7 @@ overflow_mul-y c = omega (arith, place c)
 pub put_bytes-requires : goal.put_bytes-requires
 put_bytes-requires c =
     let p = place (goal.at.put_bytes-requires c).After-column_of in
-    record { n_in_bounds = omega (arith, p); n_in_bounds_2 = omega (arith, p) }
+    record { bytes_room = omega (arith, p); faces_room = omega (arith, p) }
 
 pub overflow_add-y : goal.overflow_add-y
 overflow_add-y c = omega (arith, place (goal.at.overflow_add-y c).After-column_of)

@@ -24,9 +24,9 @@ pub write_cut-requires : goal.write_cut-requires
 write_cut-requires c =
     let k = known (goal.at.write_cut-requires c).Else-refusal-ne0 in
     record {
-      x_bound = k.cutting.at.inside-w;
-      w_in_bounds = cut-within k;
-      x_in_bounds = k.room;
+      across = k.cutting.at.inside-w;
+      source_room = cut-within k;
+      target_room = k.room;
     }
 
 pub overflow_mul-result : goal.overflow_mul-result

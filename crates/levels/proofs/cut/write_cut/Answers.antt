@@ -5,7 +5,7 @@ use Rattle.levels.proofs.cut.write_cut.Goals as goal
 pub loop-y-init : goal.loop-y-init
 loop-y-init c =
     let p = c.requires in
-    cut-first _ _ _ _ _ _ _ p.x_bound p.w_in_bounds p.x_in_bounds
+    cut-first _ _ _ _ _ _ _ p.across p.source_room p.target_room
 
 pub overflow_add-from : goal.overflow_add-from
 overflow_add-from c = omega (arith, cut-reads c.loop-y.invariant c.loop-y-test.true)

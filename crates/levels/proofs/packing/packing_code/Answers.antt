@@ -1,4 +1,5 @@
 -- `levels::packing::packing_code` meets its contract: one case a code.
+use native.Mathlib.Omega.{arith}
 use borrow.Author.Tests.{ne_eqb}
 use Rattle.rules.specs.Packing.{packing_code}
 use Rattle.levels.proofs.packing.packing_code.Goals as goal
@@ -13,4 +14,4 @@ returns-in-1 c = rw c.in-1.is
 
 pub returns-in_default : goal.returns-in_default
 unfolding packing_code
-returns-in_default c = let no = c.in_default.in_default-own.rest in rw (ne_eqb _ 0 no.0.1, ne_eqb _ 1 no.1)
+returns-in_default c = rw (ne_eqb c.args.code 0 (omega arith), ne_eqb c.args.code 1 (omega arith))

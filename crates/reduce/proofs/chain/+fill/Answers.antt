@@ -12,15 +12,15 @@ wrote t c =
     record {
       sides = c.requires.sides;
       more = omega arith;
-      room = c.requires.le_left.1;
+      room = c.requires.room.1;
       at = c.size-n.ensures;
       holds = c.write_next.ensures;
     }
 
-pub write_next-requires-clause-w_in_bounds : goal.write_next-requires-clause-w_in_bounds
-write_next-requires-clause-w_in_bounds t c =
+pub write_next-requires-clause-room : goal.write_next-requires-clause-room
+write_next-requires-clause-room t c =
     let a = c.args in
-    step_room (reduce_of a.kind a.packing) _ _ _ _ a.s.now c.requires.sides (omega arith) c.requires.le_left.1
+    step_room (reduce_of a.kind a.packing) _ _ _ _ a.s.now c.requires.sides (omega arith) c.requires.room.1
 
 pub slice_bounds-fill-count : goal.slice_bounds-fill-count
 slice_bounds-fill-count t c = at-fits (wrote t c)
@@ -36,17 +36,17 @@ fill-requires t c =
 pub returns-then-left-gt2 : goal.returns-then-left-gt2
 returns-then-left-gt2 t c = put_back (wrote t (goal.at.returns-then-left-gt2 t c).After-halved-h2) c.halved-w2.ensures c.halved-h2.ensures c.fill.ensures
 
-pub write_next-requires-then-left-gt1-clause-w_in_bounds : goal.write_next-requires-then-left-gt1-clause-w_in_bounds
-write_next-requires-then-left-gt1-clause-w_in_bounds t c =
+pub write_next-requires-then-left-gt1-clause-room : goal.write_next-requires-then-left-gt1-clause-room
+write_next-requires-then-left-gt1-clause-room t c =
     let a = c.args in
-    step_room (reduce_of a.kind a.packing) _ _ _ _ a.s.now c.requires.sides c.if-left-gt1.true c.requires.le_left.1
+    step_room (reduce_of a.kind a.packing) _ _ _ _ a.s.now c.requires.sides c.if-left-gt1.true c.requires.room.1
 
 pub returns-then-left-gt1 : goal.returns-then-left-gt1
 returns-then-left-gt1 t c =
     let a = c.args in
-    step-last (reduce_of a.kind a.packing) _ _ _ _ a.s.now c.requires.sides c.if-left-gt1.true c.requires.le_left.1 _ c.write_next-then-left-gt1.ensures c.if-left-gt2.false
+    step-last (reduce_of a.kind a.packing) _ _ _ _ a.s.now c.requires.sides c.if-left-gt1.true c.requires.room.1 _ c.write_next-then-left-gt1.ensures c.if-left-gt2.false
 
 pub returns-else-left-gt1 : goal.returns-else-left-gt1
 returns-else-left-gt1 t c =
     let a = c.args in
-    step-none (reduce_of a.kind a.packing) c.requires.sides c.requires.le_left.0 c.if-left-gt1.false
+    step-none (reduce_of a.kind a.packing) c.requires.sides c.requires.room.0 c.if-left-gt1.false

@@ -15,7 +15,7 @@ few : (c : goal.Start) → (2 * c.args.m ≤ 384) × (c.args.w ≤ 384)
 few c =
     let a = c.args in
     let some : 1 ≤ 2 * a.m = omega arith in
-    (omega (arith, mul-le-mul_left (2 * a.m) c.requires.le_w.0), omega (arith, mul-le-mul_right a.w some))
+    (omega (arith, mul-le-mul_left (2 * a.m) c.requires.block.0), omega (arith, mul-le-mul_right a.w some))
 
 pub overflow_mul-n : goal.overflow_mul-n
 overflow_mul-n c = omega (arith, few (goal.at.overflow_mul-n c).Start)
@@ -26,8 +26,8 @@ overflow_mul-m c = omega (arith, few (goal.at.overflow_mul-m c).Start)
 pub write_next-requires-clause-sides : goal.write_next-requires-clause-sides
 write_next-requires-clause-sides c = let n = few (goal.at.write_next-requires-clause-sides c).Start in omega arith
 
-pub write_next-requires-clause-w_in_bounds : goal.write_next-requires-clause-w_in_bounds
-write_next-requires-clause-w_in_bounds c =
+pub write_next-requires-clause-room : goal.write_next-requires-clause-room
+write_next-requires-clause-room c =
     let high : half (2 * c.args.m) ≡ c.args.m = omega arith in
     rw (one-mul (2 * c.args.m), high, one-mul c.args.m) (omega arith)
 
@@ -37,7 +37,7 @@ overflow_mul-m-2 c = rw c.halved.ensures (omega arith)
 pub alike-requires : goal.alike-requires
 alike-requires c =
     let w = c.args.w in
-    let less : half w ≤ w = omega (arith, c.requires.le_w.0) in
+    let less : half w ≤ w = omega (arith, c.requires.block.0) in
     let n : c.args.m * half w ≤ c.args.m * w = mul-le-mul_left c.args.m less in
     rw c.halved.ensures (search rules, omega arith, omega arith)
 

@@ -11,16 +11,16 @@ use Rattle.reduce.proofs.check_block.check_rows.Goals.{Else-blocks}
 
 pub check_block-requires : goal.check_block-requires
 check_block-requires c =
-    let fits = c.requires.r1_value.0 c.if-blocks.true in
+    let fits = c.requires.shape.0 c.if-blocks.true in
     omega arith
 
 pub returns-then-blocks : goal.returns-then-blocks
 returns-then-blocks c =
-    rw (c.requires.r1_value.0 c.if-blocks.true).0 c.check_block.ensures
+    rw (c.requires.shape.0 c.if-blocks.true).0 c.check_block.ensures
 
 -- what is no block is one row
 one : (c : goal.Else-blocks) → c.args.m ≡ 1
-one c = c.requires.r1_value.1 c.if-blocks.false
+one c = c.requires.shape.1 c.if-blocks.false
 
 pub check_row-requires : goal.check_row-requires
 check_row-requires c =

@@ -23,7 +23,7 @@ overflow_mul-rows c =
 
 pub loop-y-init : goal.loop-y-init
 loop-y-init c =
-    (refl, rows-first _ _ _ _ _ _ _ _ c.requires.sides c.halved-w2.ensures c.halved-h2.ensures c.size-n.ensures c.requires.w_in_bounds)
+    (refl, rows-first _ _ _ _ _ _ _ _ c.requires.sides c.halved-w2.ensures c.halved-h2.ensures c.size-n.ensures c.requires.room)
 
 pub together-m-requires : goal.together-m-requires
 together-m-requires c =
@@ -70,8 +70,8 @@ check_rows-right-requires c =
     let r = run (goal.at.check_rows-right-requires c).After-together-m in
     let rows = c.rows_above-r.ensures in
     let fits = c.together-m.ensures in record {
-      le_w = omega (arith, c.requires, r.some, rows, places (goal.at.check_rows-right-requires c).After-rows_above-r, standing (goal.at.check_rows-right-requires c).After-rows_above-r, c.loop-y.invariant.0);
-      r1_value = (
+      room = omega (arith, c.requires, r.some, rows, places (goal.at.check_rows-right-requires c).After-rows_above-r, standing (goal.at.check_rows-right-requires c).After-rows_above-r, c.loop-y.invariant.0);
+      shape = (
         λ yes.
             let lie = sources c.loop-y.invariant.1 _ r rows (c.in_blocks-blocks.ensures yes).1 in
             (lie.0, omega (arith, lie.1), fits.2 yes),

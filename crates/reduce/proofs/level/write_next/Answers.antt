@@ -10,7 +10,7 @@ overflow_mul-rows c =
 
 pub loop-y-init : goal.loop-y-init
 loop-y-init c =
-    rows-first _ _ _ _ _ _ _ _ c.requires.sides c.halved-w2.ensures c.halved-h2.ensures c.size-n.ensures c.requires.w_in_bounds
+    rows-first _ _ _ _ _ _ _ _ c.requires.sides c.halved-w2.ensures c.halved-h2.ensures c.size-n.ensures c.requires.room
 
 pub rows_above-r-requires : goal.rows_above-r-requires
 rows_above-r-requires c = omega (arith, c.loop-y.invariant, rows-places c.loop-y.invariant c.loop-y-test.true)

@@ -7,5 +7,5 @@ pub returns : goal.returns
 returns c =
     record {
       count = c.least-m.ensures;
-      s_after = part-is (srgb_of c.args.packing) c.args.to c.args.r0 c.args.r1 c.least-m.result c.args.s.now _ _ _ c.row.ensures c.put.ensures;
+      leaves = part-is (srgb_of c.args.packing) c.args.to c.args.r0 c.args.r1 c.least-m.result c.args.s.now _ _ _ c.row.ensures c.put.ensures;
     }

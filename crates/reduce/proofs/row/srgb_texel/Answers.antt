@@ -5,4 +5,4 @@ use Rattle.reduce.proofs.row.srgb_texel.Goals as goal
 
 pub returns : goal.returns
 returns c =
-    two-columns (srgb_of _) _ _ c.srgb_part.result _ c.srgb_part.ensures.count c.srgb_part.ensures.s_after
+    two-columns (srgb_of _) _ _ c.srgb_part.result _ c.srgb_part.ensures.count c.srgb_part.ensures.leaves

@@ -42,8 +42,8 @@ overflow_add-to-in_default c = omega arith
 
 pub part-m-requires : goal.part-m-requires
 part-m-requires c = record {
-  kind_nonzero = omega arith;
-  n_bound = omega arith;
+  no_table = omega arith;
+  room = omega arith;
 }
 
 -- what a turn made, by either arm
@@ -57,11 +57,11 @@ made c =
       | in-0 w ↦
           let e = w.m-is in
           let m = w.srgb_part-m.ensures.count in
-          (omega arith, omega arith, turn (omega arith) (w.s-is ∙ rw (e, of-srgb a.kind a.packing w.in-0.is) w.srgb_part-m.ensures.s_after))
+          (omega arith, omega arith, turn (omega arith) (w.s-is ∙ rw (e, of-srgb a.kind a.packing w.in-0.is) w.srgb_part-m.ensures.leaves))
       | in_default w ↦
           let e = w.m-is in
           let m = w.part-m.ensures.count in
-          (omega arith, omega arith, turn (omega arith) (w.s-is ∙ rw e w.part-m.ensures.s_after))
+          (omega arith, omega arith, turn (omega arith) (w.s-is ∙ rw e w.part-m.ensures.leaves))
     ]
 
 pub overflow_add-x : goal.overflow_add-x

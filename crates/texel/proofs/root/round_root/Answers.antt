@@ -29,8 +29,8 @@ overflow_add-b c = let h = sum-small _ _ _ _ (near-a (goal.at.overflow_add-b c).
 
 pub quotient-requires-2 : goal.quotient-requires-2
 quotient-requires-2 c = let s = near-b c in record {
-  le_h = c.requires;
-  le_d = (s.low, s.high);
+  h_in = c.requires;
+  d_in = (s.low, s.high);
 }
 
 pub overflow_add-c : goal.overflow_add-c
@@ -38,8 +38,8 @@ overflow_add-c c = let h = sum-small _ _ _ _ (near-b (goal.at.overflow_add-c c).
 
 pub quotient-requires-3 : goal.quotient-requires-3
 quotient-requires-3 c = let s = near-c c in record {
-  le_h = c.requires;
-  le_d = (s.low, s.high);
+  h_in = c.requires;
+  d_in = (s.low, s.high);
 }
 
 pub overflow_add-r : goal.overflow_add-r
