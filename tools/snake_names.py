@@ -3,14 +3,15 @@
 
 usage: python3 tools/snake_names.py      at the top, after port.py; run again, it changes nothing
 
-A word that some specs/ or proofs/ defines and that begins in lower case loses its capitals: sideAt becomes side_at, in every .antt file,
-in the clauses of every .rt file, and in the must-fail edits. Strings, functions, types, variants and modules keep their names. It stops
+A word that some specs/ or proofs/ defines, or that a use line brings under, and that begins in lower case loses its capitals: sideAt
+becomes side_at, in every .antt file, in the clauses of every .rt file, and in the must-fail edits. Strings, functions, types, variants and modules keep their names. It stops
 where two names would fall together.
 """
 import os
 import re
 import sys
 
+ALIAS = re.compile(r"^(?:ghost )?use .*$", re.M)
 DEFINED = re.compile(r"^\s*(?:(?:abbrev|unfoldable|pub)\s+)*([^\s:(){}\[\]λ;,.=]+) (?:\([^)]*\) )*: ")
 PART = re.compile(r"(?<=[a-z0-9])([A-Z])")
 STRING = re.compile(r'"(?:[^"\\]|\\.)*"')
@@ -41,6 +42,9 @@ def defined():
             m = DEFINED.match(line)
             if m:
                 names.add(m.group(1))
+    for path in files(".antt", ".rt"):
+        for line in ALIAS.findall(read(path)):
+            names.update(re.findall(r" as ([^\s,};]+)", line))
     return names
 
 

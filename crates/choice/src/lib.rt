@@ -2,7 +2,7 @@
 #![tactic(auto)]
 
 ghost use Rattle.std.specs.Prelude.{◌≡◌, cond, ◌&&◌, ◌||◌, ◌≤◌, min, max};
-ghost use Rattle.rules.specs.Refusals.{unless as unlessOf, ◌or_else◌};
+ghost use Rattle.rules.specs.Refusals.{unless as unless_of, ◌or_else◌};
 
 // The smaller of two numbers.
 pub fn smaller(a: u32, b: u32) -> u32
@@ -56,7 +56,7 @@ pub fn all_counted(a: bool, b: bool, c: bool, d: bool) -> bool
 
 // n where the test fails, else 0.
 pub fn unless(test: bool, n: u32) -> u32
-    ensures { result ≡ unlessOf test n }
+    ensures { result ≡ unless_of test n }
 {
     if test { 0 } else { n }
 }

@@ -1,6 +1,6 @@
 // A direction to a face of the cube and the place on it.
 ghost use Rattle.std.specs.Prelude.{◌≡◌, ◌≤◌, T};
-ghost use Rattle.rules.specs.Floats.{magnitude as magnitudeOf};
+ghost use Rattle.rules.specs.Floats.{magnitude as magnitude_of};
 ghost use Rattle.rules.specs.Faces.{direction_taken, sign_of, odd_of, on_face, spot_of};
 ghost use Rattle.places.specs.Spots.{sizes_taken, OnCube};
 
@@ -21,7 +21,7 @@ const HIGH: f32 = 1152921504606846976.0;
 
 // |x|; of -0 it is -0, which compares as 0 does.
 fn magnitude(x: f32) -> f32
-    ensures { result ≡ magnitudeOf x }
+    ensures { result ≡ magnitude_of x }
 {
     if x < 0.0 { -x } else { x }
 }
@@ -58,7 +58,7 @@ fn on_face(q: f32, major: f32) -> f32
 // X if |x| >= |y| and |x| >= |z|; else Y if |y| > |x| and |y| >= |z|; else Z.
 // (u, v) before scaling: (-z*sx, -y), (x, z*sy), (x*sz, -y).
 fn spot(x: f32, y: f32, z: f32, ax: f32, ay: f32, az: f32) -> Spot
-    requires { (ax ≡ magnitudeOf x) × (ay ≡ magnitudeOf y) × (az ≡ magnitudeOf z) }
+    requires { (ax ≡ magnitude_of x) × (ay ≡ magnitude_of y) × (az ≡ magnitude_of z) }
     ensures { result ≡ spot_of x y z }
 {
     let on_x = both(ax >= ay, ax >= az);

@@ -7,7 +7,7 @@ ghost use Rattle.rules.specs.Floats.{Between};
 ghost use Rattle.rules.specs.Whole.{floor_of};
 ghost use Rattle.rules.specs.Wrapping.{wrap_code, wrap_of};
 ghost use Rattle.texel.specs.Ends.{low12, high12};
-ghost use Rattle.places.specs.Sources.{least as leastOf, most as most_of, rest_source};
+ghost use Rattle.places.specs.Sources.{least as least_of, most as most_of, rest_source};
 ghost use Rattle.places.specs.Stands.{Counted, AllCounted, wraps_of};
 
 use choice::pick;
@@ -28,7 +28,7 @@ pub fn wrap_code(code: u32) -> Wrap
 
 // The smaller of two numbers, and the larger.
 fn least(a: f32, b: f32) -> f32
-    ensures { result ≡ leastOf a b }
+    ensures { result ≡ least_of a b }
 {
     pick(a < b, a, b)
 }
