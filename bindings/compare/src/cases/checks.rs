@@ -192,9 +192,9 @@ fn sides_about_parts() -> Vec<(u32, u32)> {
         .collect()
 }
 
-/// How many rows made from rows so wide are looked at together, one at least: with their sources 512 texels.
+/// How many rows made from rows so wide are looked at together, one at least: with their sources 384 texels.
 fn rows_together(width: usize) -> usize {
-    (512 / (2 * width + (width / 2).max(1))).max(1)
+    (384 / (2 * width + (width / 2).max(1))).max(1)
 }
 
 /// Sides of narrow pictures whose level 1 has about as many rows as one and two blocks of them, the widest beside the widths from which
