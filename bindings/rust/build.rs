@@ -49,7 +49,7 @@ fn parts(crates: &Path) -> Vec<PathBuf> {
 fn prove(root: &Path) {
     match Command::new(root.join("tools/archive")).output() {
         Ok(done) if done.status.success() => {}
-        Ok(done) => stop(&format!("`tools/archive` failed:\n{}", String::from_utf8_lossy(&done.stderr))),
+        Ok(done) => stop(&format!("`tools/archive` failed:\n{}", String::from_utf8_lossy(&done.stderr).trim_end())),
         Err(why) => stop(&format!("`tools/archive` cannot be run ({why})")),
     }
 }
