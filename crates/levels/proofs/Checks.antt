@@ -89,15 +89,16 @@ module _ (reduce : ℕ → ℕ → ℕ → ℕ → ℕ) (faces w h m : ℕ) (l :
 -- the same of the code's own values: r is what `check_next` answered
 pub judged : (reduce : ℕ → ℕ → ℕ → ℕ → ℕ) (faces w h level : ℕ) (l : List ℕ) (r : ℕ) → 1 ≤ level → Behind faces w h level (length l)
     → Right (faces * side_at (level - 1) h * side_at (level - 1) w) (drop (start faces w h (level - 1)) l) (faces * half (side_at (level - 1) h) * half (side_at (level - 1) w)) (λ k. get_or (next reduce faces (side_at (level - 1) w) (side_at (level - 1) h) (take (faces * side_at (level - 1) h * side_at (level - 1) w) (drop (start faces w h (level - 1)) l))) k 0) r
-    → (r < faces * half (side_at (level - 1) h) * half (side_at (level - 1) w) → WrongAt (start faces w h (level - 1) + faces * side_at (level - 1) h * side_at (level - 1) w + r) ≡ level_verdict reduce faces w h l level)
-    × (faces * half (side_at (level - 1) h) * half (side_at (level - 1) w) ≤ r → Follows ≡ level_verdict reduce faces w h l level)
+    → (start faces w h level + r < start faces w h (level + 1) → WrongAt (start faces w h level + r) ≡ level_verdict reduce faces w h l level)
+    × (start faces w h (level + 1) ≤ start faces w h level + r → Follows ≡ level_verdict reduce faces w h l level)
 unfolding size_at standing
 judged reduce faces w h zero l r some b t = absurd (omega arith)
 judged reduce faces w h (suc m) l r some b t =
     let e : suc m - 1 ≡ m = omega arith in
     let u = rw (e, half-side m w, half-side m h) at t in
-    let room : start faces w h (suc m) ≤ length l = omega (arith, b.ends, b.inside) in
-    rw (e, half-side m w, half-side m h, ← start-suc faces w h m) (wrong-place reduce faces w h m l r room u, follows-at reduce faces w h m l r room u)
+    let end : start faces w h (suc m + 1) ≡ start faces w h (suc m) + size_at faces w h (suc m) = rw (add-one (suc m)) (start-suc faces w h (suc m)) in
+    let room : start faces w h (suc m) ≤ length l = let i = b.inside in omega arith in
+    (λ lt. wrong-place reduce faces w h m l r room u (omega (arith, end)), λ le. follows-at reduce faces w h m l r room u (omega (arith, end)))
 
 -- ---- the verdicts of some levels, from level a on
 

@@ -12,7 +12,6 @@ use crate::packing::packing_code;
 use crate::refusals::{chain_refusal, level_refusal};
 use crate::sizes::{faces_of, side_at, start_of, top_level};
 use reduce::check_level::check_next;
-use reduce::level::{halved, size};
 use rules::{Checked, Packing, PackingCode, Verdict};
 
 // One level's verdict: the first wrong texel's place. Level 0 always follows.
@@ -34,10 +33,11 @@ fn level_verdict(
     let w = side_at(width, level - 1) as usize;
     let h = side_at(height, level - 1) as usize;
     let before = start_of(faces, width, height, level - 1);
-    let start = before + size(faces, w, h);
-    let right = check_next(kind, packing, faces, w, h, &texels[before..]);
-    if right < size(faces, halved(w), halved(h)) {
-        Verdict::WrongAt(start + right)
+    let start = start_of(faces, width, height, level);
+    let end = start_of(faces, width, height, level + 1);
+    let place = start + check_next(kind, packing, faces, w, h, &texels[before..]);
+    if place < end {
+        Verdict::WrongAt(place)
     } else {
         Verdict::Follows
     }

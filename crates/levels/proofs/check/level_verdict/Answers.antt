@@ -11,7 +11,7 @@ use Rattle.rules.specs.Reducing.{reduce_of}
 use Rattle.rules.specs.Checks.{level_verdict, level_verdict_of}
 use Rattle.levels.proofs.Checks.{Behind, behind, judged}
 use Rattle.levels.proofs.check.level_verdict.Goals as goal
-use Rattle.levels.proofs.check.level_verdict.Goals.{After-check_next-right, After-size, After-size-2, Else-level-lt1}
+use Rattle.levels.proofs.check.level_verdict.Goals.{After-check_next, After-start_of-end, Else-level-lt1}
 
 pub returns-then-level-lt1 : goal.returns-then-level-lt1
 unfolding level_verdict_of level_verdict
@@ -34,29 +34,37 @@ start_of-before-requires c =
     let k = known (goal.at.start_of-before-requires c).Else-level-lt1 in
     omega (arith, k.few, k.sides, c.faces_of-faces.ensures)
 
-pub size-requires : goal.size-requires
-size-requires c =
-    rw (c.faces_of-faces.ensures, c.side_at-w.ensures, c.side_at-h.ensures) (known (goal.at.size-requires c).Else-level-lt1).sides
+pub start_of-start-requires : goal.start_of-start-requires
+start_of-start-requires c =
+    let k = known (goal.at.start_of-start-requires c).Else-level-lt1 in
+    omega (arith, k.few, k.sides, c.faces_of-faces.ensures)
 
--- the level before ends where the level starts, in the buffer
-fits : (c : goal.After-size)
-    → c.start_of-before.result + c.size.result ≤ length c.args.texels.now
+pub overflow_add-level : goal.overflow_add-level
+overflow_add-level c = omega (arith, (known (goal.at.overflow_add-level c).Else-level-lt1).few)
+
+pub start_of-end-requires : goal.start_of-end-requires
+start_of-end-requires c =
+    let k = known (goal.at.start_of-end-requires c).Else-level-lt1 in
+    omega (arith, k.few, k.sides, c.faces_of-faces.ensures)
+
+-- the part from the level before on lies in the buffer
+fits : (c : goal.After-start_of-end) → c.start_of-before.result ≤ length c.args.texels.now
 fits c =
-    let k = known (goal.at.After-size c).Else-level-lt1 in
-    rw (c.size.ensures, c.start_of-before.ensures, c.faces_of-faces.ensures, c.side_at-w.ensures, c.side_at-h.ensures)
-    (omega (arith, k.starts, k.ends, k.inside))
-
-pub overflow_add-start : goal.overflow_add-start
-overflow_add-start c = omega (arith, fits c)
+    let k = known (goal.at.After-start_of-end c).Else-level-lt1 in
+    rw (c.start_of-before.ensures, c.faces_of-faces.ensures) (omega (arith, k.starts, k.ends, k.inside))
 
 pub offset_bounds-texels-before : goal.offset_bounds-texels-before
 offset_bounds-texels-before c = omega (arith, fits c)
 
 pub slice_bounds-check_next-count : goal.slice_bounds-check_next-count
-slice_bounds-check_next-count c = omega (arith, fits c)
+slice_bounds-check_next-count c = fits c
 
-pub check_next-right-requires : goal.check_next-right-requires
-check_next-right-requires c = let k = known (goal.at.check_next-right-requires c).Else-level-lt1 in
+pub slice_bounds-check_next-start : goal.slice_bounds-check_next-start
+slice_bounds-check_next-start c = omega (arith, fits c)
+
+pub check_next-requires : goal.check_next-requires
+check_next-requires c =
+    let k = known (goal.at.check_next-requires c).Else-level-lt1 in
     record {
       sides = rw (c.faces_of-faces.ensures, c.side_at-w.ensures, c.side_at-h.ensures) k.sides;
       room =
@@ -64,47 +72,37 @@ check_next-right-requires c = let k = known (goal.at.check_next-right-requires c
           (omega (arith, k.starts, k.ends, k.inside));
     }
 
-pub slice_bounds-check_next-start : goal.slice_bounds-check_next-start
-slice_bounds-check_next-start c = omega (arith, fits (goal.at.slice_bounds-check_next-start c).After-size)
-
-pub size-requires-2 : goal.size-requires-2
-size-requires-2 c =
-    let k = known (goal.at.size-requires-2 c).Else-level-lt1 in
-    rw (c.halved-2.ensures, c.halved.ensures, c.faces_of-faces.ensures, c.side_at-w.ensures, c.side_at-h.ensures)
-    (omega (arith, k.sides))
-
 -- where it stops lies in the buffer, or at its end
-ends : (c : goal.After-check_next-right)
-    → c.start_of-before.result + c.size.result + c.check_next-right.result ≤ length c.args.texels.now
+ends : (c : goal.After-check_next)
+    → c.start_of-start.result + c.check_next.result ≤ length c.args.texels.now
 ends c =
     let a = c.args in
-    let k = known (goal.at.After-check_next-right c).Else-level-lt1 in
+    let k = known (goal.at.After-check_next c).Else-level-lt1 in
     let faces = c.faces_of-faces.ensures in
-    let most : c.check_next-right.result ≤ faces_of a.kind * half (side_at (a.level - 1) a.height) * half (side_at (a.level - 1) a.width)
-    = rw (faces, c.side_at-w.ensures, c.side_at-h.ensures) at c.check_next-right.ensures.most in
-    rw (c.size.ensures, c.start_of-before.ensures, faces, c.side_at-w.ensures, c.side_at-h.ensures)
-    (omega (arith, most, k.starts, k.ends, k.inside))
+    let most : c.check_next.result ≤ faces_of a.kind * half (side_at (a.level - 1) a.height) * half (side_at (a.level - 1) a.width)
+    = rw (faces, c.side_at-w.ensures, c.side_at-h.ensures) at c.check_next.ensures.most in
+    rw (c.start_of-start.ensures, faces) (omega (arith, most, k.ends, k.inside))
 
-pub overflow_add-result : goal.overflow_add-result
-overflow_add-result c = omega (arith, ends (goal.at.overflow_add-result c).After-check_next-right)
+pub overflow_add-place : goal.overflow_add-place
+overflow_add-place c = omega (arith, ends c)
 
 -- what was found there, as the definition says it
-told : (c : goal.After-size-2)
+told : (c : goal.After-check_next)
     → let a = c.args in
-    let r = c.check_next-right.result in
+    let place = c.start_of-start.result + c.check_next.result in
     let verdict = level_verdict_of a.kind a.packing a.width a.height a.texels.now a.level in
-    (r < c.size-2.result → WrongAt (c.start_of-before.result + c.size.result + r) ≡ verdict) × (c.size-2.result ≤ r → Follows ≡ verdict)
+    (place < c.start_of-end.result → WrongAt place ≡ verdict) × (c.start_of-end.result ≤ place → Follows ≡ verdict)
 unfolding level_verdict_of
 told c =
-    let start = c.start_of-before in
     let a = c.args in
     let faces = c.faces_of-faces.ensures in
-    rw (c.size-2.ensures, c.halved-2.ensures, c.halved.ensures, c.size.ensures, start.ensures, faces, c.side_at-w.ensures, c.side_at-h.ensures)
-    (judged (reduce_of a.kind a.packing) (faces_of a.kind) a.width a.height a.level a.texels.now c.check_next-right.result (omega arith) (known (goal.at.After-size-2 c).Else-level-lt1)
-    (rw (part_to_end a.texels.now start.result, start.ensures, faces, c.side_at-w.ensures, c.side_at-h.ensures) at c.check_next-right.ensures))
+    let before = c.start_of-before in
+    rw (c.start_of-start.ensures, c.start_of-end.ensures, faces)
+    (judged (reduce_of a.kind a.packing) (faces_of a.kind) a.width a.height a.level a.texels.now c.check_next.result (omega arith) (known (goal.at.After-check_next c).Else-level-lt1)
+    (rw (part_to_end a.texels.now before.result, before.ensures, faces, c.side_at-w.ensures, c.side_at-h.ensures) at c.check_next.ensures))
 
-pub returns-then-right-size : goal.returns-then-right-size
-returns-then-right-size c = (told (goal.at.returns-then-right-size c).After-size-2).0 c.if-right-size.true
+pub returns-then-place-end : goal.returns-then-place-end
+returns-then-place-end c = (told (goal.at.returns-then-place-end c).After-check_next).0 c.if-place-end.true
 
-pub returns-else-right-size : goal.returns-else-right-size
-returns-else-right-size c = (told (goal.at.returns-else-right-size c).After-size-2).1 c.if-right-size.false
+pub returns-else-place-end : goal.returns-else-place-end
+returns-else-place-end c = (told (goal.at.returns-else-place-end c).After-check_next).1 c.if-place-end.false

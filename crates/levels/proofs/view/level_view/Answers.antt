@@ -27,22 +27,22 @@ sizes : (c : goal.In-Level)
 sizes c = seen (known (goal.at.In-Level c).Else-level_view_refusal-ne0) (sym c.level_sizes.ensures.answer ∙ c.in-Level.is)
 
 pub overflow_mul-size : goal.overflow_mul-size
-overflow_mul-size c = omega (arith, (sizes (goal.at.overflow_mul-size c).In-Level).ends)
+overflow_mul-size c = omega (arith, (sizes c).ends)
 
 pub overflow_mul-from : goal.overflow_mul-from
-overflow_mul-from c = omega (arith, (sizes (goal.at.overflow_mul-from c).In-Level).ends)
+overflow_mul-from c = omega (arith, (sizes c).ends)
 
 pub overflow_add-from : goal.overflow_add-from
-overflow_add-from c = omega (arith, (sizes (goal.at.overflow_add-from c).In-Level).ends)
+overflow_add-from c = omega (arith, (sizes c).ends)
 
 pub overflow_add-end : goal.overflow_add-end
-overflow_add-end c = omega (arith, (sizes (goal.at.overflow_add-end c).In-Level).ends)
+overflow_add-end c = omega (arith, (sizes c).ends)
 
 pub offset_bounds-texels-from : goal.offset_bounds-texels-from
-offset_bounds-texels-from c = omega (arith, (sizes (goal.at.offset_bounds-texels-from c).In-Level).ends)
+offset_bounds-texels-from c = omega (arith, (sizes c).ends)
 
 pub slice_bounds-result-end-2 : goal.slice_bounds-result-end-2
-slice_bounds-result-end-2 c = (sizes (goal.at.slice_bounds-result-end-2 c).In-Level).ends
+slice_bounds-result-end-2 c = (sizes c).ends
 
 pub returns : goal.returns
 returns c = record { answer = view-goes _ _ _ _ _ _ (passed c.level_view_refusal.ensures.answer c.if-level_view_refusal-ne0.false) (seen-part (sizes (goal.at.returns c).In-Level) _) }
