@@ -30,9 +30,10 @@ fn show<W: Write>(input: &[u8], writer: &mut W) -> io::Result<()>
     writer.write_all(&out[..r])
 }
 
-// Writes the listing of what it reads.
+// Writes the listing of what there is to read, however long.
+#[tactic(auto, using(crate::proofs::Long::front_listing))]
 fn list<R: Read + Drop, W: Write>(alloc: Global, reader: R, writer: &mut W) -> io::Result<()>
-    ensures { OnOk result (IfSome (R.remaining reader) (λ file. Appends (W.contents writer.old) (W.contents writer.new) (listing_of (take 65547 file)))) }
+    ensures { OnOk result (IfSome (R.remaining reader) (λ file. Appends (W.contents writer.old) (W.contents writer.new) (listing_of file))) }
 {
     let input = read_file(alloc, reader)?;
     show(&input, writer)
