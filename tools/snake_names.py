@@ -3,9 +3,9 @@
 
 usage: python3 tools/snake_names.py      at the top, after port.py; run again, it changes nothing
 
-A word that some specs/ or proofs/ defines, or that a use line brings under, and that begins in lower case loses its capitals: sideAt
-becomes side_at, in every .antt file, in the clauses of every .rt file, and in the must-fail edits. Strings, functions, types, variants and modules keep their names. It stops
-where two names would fall together.
+A word that some specs/ or proofs/ defines, or that a use line brings under, and that begins in lower case loses its capitals: sideAt becomes
+side_at, in every .antt file, in the clauses of every .rt file, and in the must-fail edits. Strings, functions, types, variants and modules
+keep their names. It stops where two names would fall together.
 """
 import os
 import re
