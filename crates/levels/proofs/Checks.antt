@@ -16,7 +16,7 @@ use Rattle.rules.specs.Kinds.{faces_of}
 use Rattle.rules.specs.Sizes.{side_at, half, top, size_at, start, count}
 use Rattle.rules.specs.Levels.{next}
 use Rattle.rules.specs.Reducing.{reduce_of}
-use Rattle.rules.specs.Checks.{standing, right_at, level_verdict, levels_verdict, chain_verdict_of}
+use Rattle.rules.specs.Checks.{standing, right_at, level_verdict, levels_verdict, level_verdict_of, chain_verdict_of}
 use Rattle.rules.proofs.Sides.{side-pos, side-le, half-side, start-suc}
 use Rattle.rules.proofs.Refusing.{Chained}
 use Rattle.rules.proofs.Bounds.{faces-some, faces-most, top-most, level-end}
@@ -118,7 +118,16 @@ module _ (reduce : ℕ → ℕ → ℕ → ℕ → ℕ) (faces w h : ℕ) (l : L
   from_all zero = refl
   from_all (suc n) = rw (from_all n, zero-add n)
 
+  from_one : (a : ℕ) → verdicts_from reduce faces w h l a 1 ≡ level_verdict reduce faces w h l a
+  unfolding verdicts_from
+  from_one a = ap (level_verdict reduce faces w h l) (add-zero a)
+
 -- all levels
 pub from-chain : (kind : ℕ) (packing : Packing) (w h : ℕ) (l : List ℕ) → verdicts_from (reduce_of kind packing) (faces_of kind) w h l 0 (top w h + 1) ≡ chain_verdict_of kind packing w h l
 unfolding chain_verdict_of
 from-chain kind packing w h l = rw (add-one (top w h)) (from_all (reduce_of kind packing) (faces_of kind) w h l (suc (top w h)))
+
+-- one level
+pub from-level : (kind : ℕ) (packing : Packing) (w h : ℕ) (l : List ℕ) (m : ℕ) → verdicts_from (reduce_of kind packing) (faces_of kind) w h l m 1 ≡ level_verdict_of kind packing w h l m
+unfolding level_verdict_of
+from-level kind packing w h l m = from_one (reduce_of kind packing) (faces_of kind) w h l m

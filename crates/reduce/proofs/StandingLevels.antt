@@ -5,16 +5,16 @@ use mathlib.Core.List.{List}
 use Prim.Native.Nat.{ℕ, ◌+◌, ◌-◌, ◌*◌, ◌/◌, ◌%◌, ◌≤◌, ◌<◌, min}
 use native.Mathlib.Nat.{add_assoc, one-mul, add-mul, mul-le-mul, mul-le-mul_right, mod-lt, div-add-mod', div-lt_iff_lt-mul}
 use native.Mathlib.Omega.{arith}
-use lib.ListN.{length, get_or, take}
+use lib.ListN.{length, get_or, take, drop}
 use Rattle.rules.specs.Sizes.{half}
 use Rattle.rules.specs.Levels.{grid, next}
 use Rattle.rules.proofs.Grid.{get_d-tab}
 use Rattle.kinds.proofs.Runs.{over-is, over-more, over-end}
-use Rattle.reduce.specs.Rows.{rows_of}
+use Rattle.reduce.specs.Rows.{held_of, rows_of}
 use Rattle.reduce.specs.Levels.{first_row, second_row, Run}
 use Rattle.reduce.specs.Right.{Right}
 use Rattle.reduce.proofs.Bounds.{half-most}
-use Rattle.reduce.proofs.Levels.{cell_of, Rows, rows-places, held-cell}
+use Rattle.reduce.proofs.Levels.{cell_of, Rows, rows-places, row_in, held-cell, rows_more}
 use Rattle.reduce.proofs.Standing.{right-all, right-stop, right-ext}
 
 module _ {reduce : ℕ → ℕ → ℕ → ℕ → ℕ} {faces w h w2 h2 n : ℕ} {s : List ℕ} {y : ℕ} (t : Rows reduce faces w h w2 h2 n s s y) where
@@ -32,6 +32,26 @@ module _ {reduce : ℕ → ℕ → ℕ → ℕ → ℕ} {faces w h w2 h2 n : ℕ
       let e : y ≡ faces * h2 = omega arith in
       as-next
       (right-all (over-is n s (faces * h2 * w2) (cell_of reduce w h w2 h2 (take n s)) s t.room (over-end t.run (faces * h2 * w2) (ap (λ (k : ℕ). k * w2) e))))
+
+  -- row y is right up to its texel r
+  module _ (lt : y < faces * h2) {a b : ℕ} (r : ℕ) (e : (a ≡ first_row w h h2 y) × (b ≡ second_row w h h2 y))
+      (row : Right (n + y * w2) s (half w) (held_of reduce w (drop a s) (drop b s)) r) where
+    pub row_more : w2 ≤ r → Rows reduce faces w h w2 h2 n s s (y + 1)
+    row_more le =
+        let m = row.most in
+        let all : half w ≡ r = omega (arith, t.half-w) in
+        rows_more t lt s e (rw all row.same)
+
+    pub row-stop : r < w2 → Right (faces * h * w) s (faces * half h * half w) (λ k. get_or (next reduce faces w h (take (faces * h * w) s)) k 0) (y * w2 + r)
+    row-stop few =
+        let p = rows-places t lt in
+        let few' : r < half w = omega (arith, t.half-w) in
+        let u : Right (n + y * w2) s (half w) (held_of reduce w (drop (first_row w h h2 y) s) (drop (second_row w h h2 y) s)) r = rw (e.0, e.1) at row in
+        as-next
+        (right-stop
+        (over-more t.run (n + y * w2) r _ s refl u.same (omega (arith, p.goes)) (λ k lk. held-cell t lt k (omega arith)))
+        (omega (arith, row_in w2 lt))
+        (λ z. u.other few' (ap (λ (i : ℕ). get_or s i 0) (add_assoc n (y * w2) r) ∙ z ∙ sym (held-cell t lt r few'))))
 
   -- the m rows from row y on, which lie in a run
   module _ (m : ℕ) (run : Run w h h2 (faces * h2) y m) {a b : ℕ} (e : (a ≡ first_row w h h2 y) × (b ≡ second_row w h h2 y)) where

@@ -149,12 +149,12 @@ module _ (reduce : ℕ → ℕ → ℕ → ℕ → ℕ) (faces w h : ℕ) (l : L
 
   -- ---- levels
 
-  levels-more : (n : ℕ) → levels_verdict reduce faces w h l n ≡ Follows → levels_verdict reduce faces w h l (suc n) ≡ level_verdict reduce faces w h l n
+  pub levels-more : (n : ℕ) → levels_verdict reduce faces w h l n ≡ Follows → levels_verdict reduce faces w h l (suc n) ≡ level_verdict reduce faces w h l n
   unfolding levels_verdict
   levels-more n e = rw e
 
   -- a wrong place stays the verdict, whatever stands above
-  levels-stop : (n k p : ℕ) → levels_verdict reduce faces w h l n ≡ WrongAt p → n ≤ k → levels_verdict reduce faces w h l k ≡ WrongAt p
+  pub levels-stop : (n k p : ℕ) → levels_verdict reduce faces w h l n ≡ WrongAt p → n ≤ k → levels_verdict reduce faces w h l k ≡ WrongAt p
   unfolding levels_verdict
   levels-stop n zero p e le = let z : n ≡ 0 = omega arith in ap (levels_verdict reduce faces w h l) (sym z) ∙ e
   levels-stop n (suc k) p e le =
