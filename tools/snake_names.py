@@ -31,8 +31,9 @@ def read(path):
 
 
 def snake(word):
-    # A part of a name that is a type or a fact keeps its capital: only a capital behind a small letter is a new word.
-    return PART.sub(lambda m: "_" + m.group(1).lower(), word)
+    # A part of a name that is a type or a fact keeps its capital: only a capital behind a small letter is a new word. A law named after
+    # the library's getD is named after what that is called now.
+    return PART.sub(lambda m: "_" + m.group(1).lower(), word.replace("getD", "get_or"))
 
 
 def defined():

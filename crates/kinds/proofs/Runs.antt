@@ -9,7 +9,7 @@ use native.Mathlib.Omega.{arith}
 use lib.ListN.{length, get_or, take, drop, set, length-append, length-drop, take-append-drop, get_or-append}
 use lib.Seq.{length-take-le, take_at, drop_at, drop-drop, get_or-take, get_or-append-add, set_split}
 use Rattle.rules.specs.Levels.{tab}
-use Rattle.rules.proofs.Grid.{length-tab, get_d-tab, tab-ext}
+use Rattle.rules.proofs.Grid.{length-tab, get_or-tab, tab-ext}
 use Rattle.kinds.specs.Runs.{over}
 
 -- ---- runs
@@ -52,7 +52,7 @@ module _ (at : ℕ) (old : List ℕ) where
       ap (λ (i : ℕ). get_or (take at old ++ (tab n f ++ drop (at + n) old)) (i + k) 0) (sym (length-take-le at old room))
       ∙ get_or-append-add (take at old) _ k 0
       ∙ get_or-append (tab n f) _ 0 k (omega (arith, length-tab n f))
-      ∙ get_d-tab n f k lt
+      ∙ get_or-tab n f k lt
 
   -- one texel
   pub over-one : (f : ℕ → ℕ) (v : ℕ) → at < length old → v ≡ f 0 → set old at v ≡ over at old 1 f

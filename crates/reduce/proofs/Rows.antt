@@ -12,7 +12,7 @@ use lib.Seq.{get_or-drop}
 use borrow.Author.Rules.{part_to_end}
 use Rattle.rules.specs.Sizes.{half}
 use Rattle.rules.specs.Levels.{tab}
-use Rattle.rules.proofs.Grid.{length-tab, get_d-tab}
+use Rattle.rules.proofs.Grid.{length-tab, get_or-tab}
 use Rattle.kinds.specs.Runs.{over, pair_of}
 use Rattle.reduce.specs.Rows.{held_of}
 use Rattle.kinds.proofs.Runs.{Over, over-same, over-more, over-one, over-ext, over-within}
@@ -20,7 +20,7 @@ use Rattle.kinds.proofs.Runs.{Over, over-same, over-more, over-one, over-ext, ov
 -- the run at the front of a list
 pub front_at : (old : List ℕ) (n : ℕ) (f : ℕ → ℕ) (k : ℕ) → k < n → get_or (over 0 old n f) k 0 ≡ f k
 unfolding over
-front_at old n f k lt = get_or-append (tab n f) _ 0 k (omega (arith, length-tab n f)) ∙ get_d-tab n f k lt
+front_at old n f k lt = get_or-append (tab n f) _ 0 k (omega (arith, length-tab n f)) ∙ get_or-tab n f k lt
 
 -- lists that agree below `to`, read through two starts
 pub seen : (to : ℕ) (s old : List ℕ) → ((i : ℕ) → i < to → get_or s i 0 ≡ get_or old i 0)

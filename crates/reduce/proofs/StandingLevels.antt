@@ -8,7 +8,7 @@ use native.Mathlib.Omega.{arith}
 use lib.ListN.{length, get_or, take, drop}
 use Rattle.rules.specs.Sizes.{half}
 use Rattle.rules.specs.Levels.{grid, next}
-use Rattle.rules.proofs.Grid.{get_d-tab}
+use Rattle.rules.proofs.Grid.{get_or-tab}
 use Rattle.kinds.proofs.Runs.{over-is, over-more, over-end}
 use Rattle.reduce.specs.Rows.{held_of, rows_of}
 use Rattle.reduce.specs.Levels.{first_row, second_row, Run}
@@ -23,7 +23,7 @@ module _ {reduce : ℕ → ℕ → ℕ → ℕ → ℕ} {faces w h w2 h2 n : ℕ
       → Right (faces * h * w) s (faces * half h * half w) (λ k. get_or (next reduce faces w h (take (faces * h * w) s)) k 0) r
   unfolding next grid cell_of
   as-next u =
-      right-ext (λ k. get_or (next reduce faces w h (take (faces * h * w) s)) k 0) (λ k lt. sym (get_d-tab (faces * half h * half w) _ k lt))
+      right-ext (λ k. get_or (next reduce faces w h (take (faces * h * w) s)) k 0) (λ k lt. sym (get_or-tab (faces * half h * half w) _ k lt))
       (rw (t.half-w, t.half-h, t.here) at u)
 
   -- all rows are right

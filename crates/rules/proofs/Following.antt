@@ -35,9 +35,9 @@ module _ (reduce : ℕ → ℕ → ℕ → ℕ → ℕ) (faces : ℕ) where
     unfolding standing
     length-standing m room = length-take-le (size_at faces w h m) (drop (start faces w h m) l) (rw (length-drop (start faces w h m) l) (omega (arith, start-suc faces w h m)))
 
-    pub get_d-standing : (m k : ℕ) → k < size_at faces w h m → get_or (standing faces w h l m) k 0 ≡ get_or l (start faces w h m + k) 0
+    pub get_or-standing : (m k : ℕ) → k < size_at faces w h m → get_or (standing faces w h l m) k 0 ≡ get_or l (start faces w h m + k) 0
     unfolding standing
-    get_d-standing m k lt = get_or-take (size_at faces w h m) _ k 0 lt ∙ get_or-drop (start faces w h m) l k 0
+    get_or-standing m k lt = get_or-take (size_at faces w h m) _ k 0 lt ∙ get_or-drop (start faces w h m) l k 0
 
     -- a level follows exactly if it is the level after the one before
     follows_next : (m : ℕ) → start faces w h (suc (suc m)) ≤ length l → level_verdict reduce faces w h l (suc m) ≡ Follows
@@ -46,13 +46,13 @@ module _ (reduce : ℕ → ℕ → ℕ → ℕ → ℕ) (faces : ℕ) where
     follows_next m room e =
         let long = length-standing (suc m) room in
         ext_get_or 0 _ _ (long ∙ sym (length-next reduce faces (side_at m w) (side_at m h) (standing faces w h l m) ∙ rw (half-side m w, half-side m h)))
-        (λ k lt. get_d-standing (suc m) k (omega arith) ∙ level-texels reduce faces w h l m e k (omega arith) ∙ due-at reduce faces w h l m k)
+        (λ k lt. get_or-standing (suc m) k (omega arith) ∙ level-texels reduce faces w h l m e k (omega arith) ∙ due-at reduce faces w h l m k)
 
     next-follows : (m : ℕ) → standing faces w h l (suc m) ≡ next reduce faces (side_at m w) (side_at m h) (standing faces w h l m)
         → level_verdict reduce faces w h l (suc m) ≡ Follows
     next-follows m e =
         texels-level reduce faces w h l m λ k lt.
-        sym (get_d-standing (suc m) k lt) ∙ ap (λ (s : List ℕ). get_or s k 0) e ∙ sym (due-at reduce faces w h l m k)
+        sym (get_or-standing (suc m) k lt) ∙ ap (λ (s : List ℕ). get_or s k 0) e ∙ sym (due-at reduce faces w h l m k)
 
     -- every level as it stands is that level of the level 0 that stands there
     module _ (pw : 0 < w) (ph : 0 < h) where

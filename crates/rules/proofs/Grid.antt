@@ -13,11 +13,11 @@ unfolding tab
 length-tab zero f = refl
 length-tab (suc n) f = ap suc (length-tab n (λ k. f (suc k)))
 
-pub get_d-tab : (n : ℕ) (f : ℕ → ℕ) (i : ℕ) → i < n → get_or (tab n f) i 0 ≡ f i
+pub get_or-tab : (n : ℕ) (f : ℕ → ℕ) (i : ℕ) → i < n → get_or (tab n f) i 0 ≡ f i
 unfolding tab
-get_d-tab zero f i h = absurd (not-suc-le-zero h)
-get_d-tab (suc n) f zero h = refl
-get_d-tab (suc n) f (suc i) h = get_d-tab n (λ k. f (suc k)) i (le_of_suc-le-suc h)
+get_or-tab zero f i h = absurd (not-suc-le-zero h)
+get_or-tab (suc n) f zero h = refl
+get_or-tab (suc n) f (suc i) h = get_or-tab n (λ k. f (suc k)) i (le_of_suc-le-suc h)
 
 pub tab-ext : (n : ℕ) (f g : ℕ → ℕ) → ((i : ℕ) → i < n → f i ≡ g i) → tab n f ≡ tab n g
 unfolding tab
@@ -54,7 +54,7 @@ length-grid n w h g = length-tab (n * h * w) _
 pub texel-grid : (n w h : ℕ) (g : ℕ → ℕ → ℕ → ℕ) (f x y : ℕ) → f < n → x < w → y < h → texel w h (grid n w h g) f x y ≡ g f x y
 unfolding grid texel
 texel-grid n w h g f x y hf hx hy =
-    get_d-tab (n * h * w) (λ i. g (i / w / h) (i % w) (i / w % h)) ((f * h + y) * w + x) (place-lt hf hx hy)
+    get_or-tab (n * h * w) (λ i. g (i / w / h) (i % w) (i / w % h)) ((f * h + y) * w + x) (place-lt hf hx hy)
     ∙ rw (x-of h f x y hx, y_of f x y hx hy, f-of f x y hx hy)
 
 pub grid-ext : (n w h : ℕ) → 0 < w → 0 < h → (g g' : ℕ → ℕ → ℕ → ℕ)

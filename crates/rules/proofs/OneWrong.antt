@@ -13,7 +13,7 @@ use Rattle.rules.specs.declared.Verdict.TheVariants.{Follows, WrongAt}
 use Rattle.rules.specs.Sizes.{side_at, half, size_at, start}
 use Rattle.rules.specs.Levels.{grid, texel, quad, next}
 use Rattle.rules.specs.Checks.{standing, due, level_verdict, levels_verdict, Wrong, child}
-use Rattle.rules.proofs.Grid.{get_d-tab, x-of, y_of, f-of}
+use Rattle.rules.proofs.Grid.{get_or-tab, x-of, y_of, f-of}
 use Rattle.rules.proofs.Sides.{side-pos, half-side, start-suc}
 use Rattle.rules.proofs.Bounds.{start-mono}
 use Rattle.rules.proofs.Checks.{verdict-of, no-wrong-level, follows-none, wrong-smallest, smallest-wrong}
@@ -54,11 +54,11 @@ module _ (reduce : ℕ → ℕ → ℕ → ℕ → ℕ) (faces w h : ℕ) (s : L
   next-elsewhere k lt other =
       let pw' : 0 < half w = omega arith in
       let ph' : 0 < half h = omega arith in
-      get_d-tab (faces * half h * half w) _ k lt
+      get_or-tab (faces * half h * half w) _ k lt
       ∙ quad-elsewhere reduce w h s q t (k / half w / half h) (k % half w) (k / half w % half h)
       (λ x' y' bx by ex ey e. other (kid_of w h k x' y' q bx by ex ey e))
       (mod-lt k pw') (mod-lt (k / half w) ph') pw ph
-      ∙ sym (get_d-tab (faces * half h * half w) _ k lt)
+      ∙ sym (get_or-tab (faces * half h * half w) _ k lt)
 
 -- ---- the chain
 
