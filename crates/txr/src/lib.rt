@@ -1,13 +1,15 @@
-// A TXR file, parsed, and its levels listed.
+// A TXR file, parsed, and its levels listed; and what the programs that list read and write.
 #![tactic(auto)]
 
 mod digits;
 mod file;
 mod lines;
 mod listing;
+mod stream;
 
 pub use file::parse;
 pub use listing::list;
+pub use stream::{read_front, write_listing};
 
 // What the header of a file says of its picture.
 #[derive(Clone, Copy)]

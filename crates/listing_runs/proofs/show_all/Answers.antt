@@ -25,7 +25,7 @@ loop-at-preserved g c =
       n = inv.n - 1;
       enough = omega (arith, inv.enough, c.loop-at-test.true, c.least-end.ensures);
       goes_on = rw (append_assoc, ← one_more (inv.n - 1) c.loop-at.at c.least-end.result c.args.runs.now c.loop-at-test.true c.least-end.ensures, ← fuel) inv.goes_on;
-      appended = Appends-trans _ _ _ _ _ inv.appended c.in_ok-show.ensures;
+      appended = Appends-trans _ _ _ _ _ inv.appended c.in_ok-write_listing.ensures;
     }
 
 pub returns : goal.returns
