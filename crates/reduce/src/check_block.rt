@@ -15,14 +15,14 @@ use rules::Packing;
 
 // Narrower rows are looked at in blocks. Of rows above that no two have room, or whole numbers tell them without a copy.
 fn narrow_below(kind: u32, packing: Packing) -> usize
-    ensures { result ≤ 100 }
+    ensures { result ≤ 78 }
 {
-    if by_wholes(kind, packing) { 8 } else { 100 }
+    if by_wholes(kind, packing) { 8 } else { 78 }
 }
 
 // Whether a level's rows are looked at in blocks: they are narrow, and each has two rows that it is made from.
 pub fn in_blocks(kind: u32, packing: Packing, w: usize, h: usize) -> bool
-    ensures { (result ≡ true) → (w < 100) × (2 ≤ h) }
+    ensures { (result ≡ true) → (w < 78) × (2 ≤ h) }
 {
     h > 1 && w < narrow_below(kind, packing)
 }
@@ -42,7 +42,7 @@ fn in_a_run(faces: usize, h: usize, y: usize) -> usize
 
 // How many rows from row y on are looked at together: in blocks, as many of a run as 384 texels hold with their sources.
 pub fn together(blocks: bool, faces: usize, w: usize, h: usize, y: usize) -> usize
-    requires { Sides faces w h × (y < faces * half h) × ((blocks ≡ true) → (w < 100)) }
+    requires { Sides faces w h × (y < faces * half h) × ((blocks ≡ true) → (w < 78)) }
     ensures { Run w h (half h) (faces * half h) y result × ((blocks ≡ false) → (result ≡ 1)) × ((blocks ≡ true) → (2 * result * w + result * half w ≤ 384)) }
 {
     if blocks {

@@ -200,7 +200,7 @@ fn rows_together(width: usize) -> usize {
 /// Sides of narrow pictures whose level 1 has about as many rows as one and two blocks of them, the widest beside the widths from which
 /// rows are looked at one by one.
 fn sides_about_blocks() -> Vec<(u32, u32)> {
-    let widths = [1, 2, 3, 5, 7, 8, 9, 31, 63, 98, 99, 100].into_iter();
+    let widths = [1, 2, 3, 5, 7, 8, 9, 31, 63, 76, 77, 78, 98, 99, 100].into_iter();
     let sides = |width: u32| {
         let rows = rows_together(width as usize) as u32;
         [(width, 2 * rows), (width, 2 * rows + 3), (width, 4 * rows + 2)]

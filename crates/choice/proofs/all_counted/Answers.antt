@@ -21,6 +21,5 @@ counted false b c d = let p = most b in let q = most c in let r = most d in ne_e
 
 pub returns : goal.returns
 returns c =
-    let s = c in
     rw (c.one_if-4.ensures.0, c.one_if-3.ensures.0, c.one_if-2.ensures.0, c.one_if.ensures.0)
-    (counted s.args.a s.args.b s.args.c s.args.d)
+    (counted c.args.a c.args.b c.args.c c.args.d)
