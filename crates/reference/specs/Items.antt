@@ -1,16 +1,11 @@
 -- Document 01's reference list as one table: a row for each thing that it says, with the item's number, what is asked of the rules
 -- and what 01 answers; and what document 02 says of an item in nearest mode. `Holds table` is the one claim about it. Definitions only.
+use Rattle.std.specs.Prelude.{Ok}
+use Rattle.rules.specs.Answers.{refused}
 use Rattle.std.specs.Prelude.{◌≡◌, List, [], ◌∷◌, map, ℕ, pos, negsuc, Float}
 use Rattle.std.specs.Float.{binary32}
 use Rattle.std.specs.Float.Ieee.{of_bits}
-use Rattle.rules.specs.declared.Lanes.{Lanes}
-use Rattle.rules.specs.declared.Sizes.{Sizes}
-use Rattle.rules.specs.declared.Sizes.TheVariants.{Level, Refused as NoSizes}
-use Rattle.rules.specs.declared.Level.TheVariants.{At}
-use Rattle.rules.specs.declared.Facing.{Facing}
-use Rattle.rules.specs.declared.Facing.TheVariants.{On, Refused as NoFacing}
-use Rattle.rules.specs.declared.Colour.{Colour}
-use Rattle.rules.specs.declared.Colour.TheVariants.{Rgb, Refused as NoColour}
+use Rattle.rules.specs.Lanes.{Lanes}
 use Rattle.rules.specs.Kinds.{srgb, normal, metallic_roughness, cubemap, linear}
 use Rattle.rules.specs.Floats.{zero32, half32, one32, minus1}
 use Rattle.rules.specs.Wrapping.{mode_of, wrap_of}
@@ -80,39 +75,39 @@ abbrev facing : Float → Float → Float → Facing
 facing x y z = facing_answer (record { x = every x; y = every y; z = every z })
 
 abbrev on : ℕ → Float → Float → Facing
-on face u v = On (record { u = every u; v = every v; faces = record { a = face; b = face; c = face; d = face } })
+on face u v = Ok (record { u = every u; v = every v; faces = record { a = face; b = face; c = face; d = face } })
 
 -- the green picture of one texel, looked up at (u, v)
 abbrev lookup : Float → Float → Colour
 lookup u v = sample4_rgb_answer linear 1 1 (0x00FF00FF ∷ []) (record { wrap_s = 10497; wrap_t = 10497 }) (every u) (every v) (every zero32)
 
 abbrev green : Colour
-green = Rgb (record { x = every zero32; y = every one32; z = every zero32 })
+green = Ok (record { x = every zero32; y = every one32; z = every zero32 })
 
 -- ---- the table
 
 abbrev pub table : List Row
 table =
     -- 5 by 3: levels 5x3, 2x1, 1x1 at 0, 15, 17; 18 texels. 1 by 1: one level
-    row 1 (sizes 5 3 0) (Level 0 5 3 18)
-    ∷ row 1 (sizes 5 3 1) (Level 15 2 1 18)
-    ∷ row 1 (sizes 5 3 2) (Level 17 1 1 18)
-    ∷ row 1 (sizes 5 3 3) (NoSizes 6)
-    ∷ row 1 (sizes 1 1 0) (Level 0 1 1 1)
-    ∷ row 1 (sizes 1 1 1) (NoSizes 6)
+    row 1 (sizes 5 3 0) (Ok 0 5 3 18)
+    ∷ row 1 (sizes 5 3 1) (Ok 15 2 1 18)
+    ∷ row 1 (sizes 5 3 2) (Ok 17 1 1 18)
+    ∷ row 1 (sizes 5 3 3) (refused 6)
+    ∷ row 1 (sizes 1 1 0) (Ok 0 1 1 1)
+    ∷ row 1 (sizes 1 1 1) (refused 6)
     -- 3 by 1: 3x1, 1x1; the third column takes no part
-    ∷ row 2 (sizes 3 1 0) (Level 0 3 1 4)
-    ∷ row 2 (sizes 3 1 1) (Level 3 1 1 4)
-    ∷ row 2 (sizes 3 1 2) (NoSizes 6)
+    ∷ row 2 (sizes 3 1 0) (Ok 0 3 1 4)
+    ∷ row 2 (sizes 3 1 1) (Ok 3 1 1 4)
+    ∷ row 2 (sizes 3 1 2) (refused 6)
     ∷ row 2 {A = ℕ → List ℕ} (λ third. chain_leaves linear 3 1 truncating (0x00FF00FF ∷ 0xFF0000FF ∷ third ∷ 0 ∷ [])) (λ third. 0x00FF00FF ∷ 0xFF0000FF ∷ third ∷ 0x7F7F00FF ∷ [])
     -- 4096 by 1: 13 levels, 8,191 texels. 4097: refusal 2
-    ∷ row 3 (sizes 4096 1 12) (Level 8190 1 1 8191)
-    ∷ row 3 (sizes 4096 1 13) (NoSizes 6)
-    ∷ row 3 (sizes 4097 1 0) (NoSizes 2)
+    ∷ row 3 (sizes 4096 1 12) (Ok 8190 1 1 8191)
+    ∷ row 3 (sizes 4096 1 13) (refused 6)
+    ∷ row 3 (sizes 4097 1 0) (refused 2)
     -- Cubemap 2 by 2: levels at 0 and 24; 30 texels
-    ∷ row 4 (level_sizes_answer cubemap 2 2 0) (Level 0 2 2 30)
-    ∷ row 4 (level_sizes_answer cubemap 2 2 1) (Level 24 1 1 30)
-    ∷ row 4 (level_sizes_answer cubemap 2 2 2) (NoSizes 6)
+    ∷ row 4 (level_sizes_answer cubemap 2 2 0) (Ok 0 2 2 30)
+    ∷ row 4 (level_sizes_answer cubemap 2 2 1) (Ok 24 1 1 30)
+    ∷ row 4 (level_sizes_answer cubemap 2 2 2) (refused 6)
     -- Linear 00FF00FF, FF0000FF side by side: 7F7F00FF, nearest 808000FF
     ∷ row 5 (pair linear truncating 0x00FF00FF 0xFF0000FF) (0x00FF00FF ∷ 0xFF0000FF ∷ 0x7F7F00FF ∷ [])
     ∷ row 5 (pair linear nearest 0x00FF00FF 0xFF0000FF) (0x00FF00FF ∷ 0xFF0000FF ∷ 0x808000FF ∷ [])
@@ -130,16 +125,16 @@ table =
     ∷ row 9 (wraps 33071) (0 ∷ 3 ∷ 3 ∷ 3 ∷ [])
     ∷ row 9 (wraps 33648) (1 ∷ 3 ∷ 3 ∷ 0 ∷ [])
     -- 64 by 64, steps (1/16, 0, 0, 1/16): level 2; (1/16, 0, 0, 0): level 1; all zero: 0
-    ∷ row 10 (mip_level_answer 64 64 (steps sixteenth zero32 zero32 sixteenth)) (At 2)
-    ∷ row 10 (mip_level_answer 64 64 (steps sixteenth zero32 zero32 zero32)) (At 1)
-    ∷ row 10 (mip_level_answer 64 64 (every zero32)) (At 0)
+    ∷ row 10 (mip_level_answer 64 64 (steps sixteenth zero32 zero32 sixteenth)) (Ok 2)
+    ∷ row 10 (mip_level_answer 64 64 (steps sixteenth zero32 zero32 zero32)) (Ok 1)
+    ∷ row 10 (mip_level_answer 64 64 (every zero32)) (Ok 0)
     -- (1,1,1): face 0, (0, 0). (0,2,1): face 2, (0.5, 0.75). (-0,0,-1): face 5, (0.5, 0.5). (0,0,0): refusal 7
     ∷ row 11 (facing one32 one32 one32) (on 0 zero32 zero32)
     ∷ row 11 (facing zero32 two one32) (on 2 half32 three_quarters)
     ∷ row 11 (facing minus0 zero32 minus1) (on 5 half32 half32)
-    ∷ row 11 (facing zero32 zero32 zero32) (NoFacing 7)
+    ∷ row 11 (facing zero32 zero32 zero32) (refused 7)
     -- coordinate 2048 is taken; the next f32 above is refusal 5
     ∷ row 12 (lookup (bits 0x45000000) (bits 0x45000000)) green
-    ∷ row 12 (lookup (bits 0x45000001) zero32) (NoColour 5)
-    ∷ row 12 (lookup zero32 (bits 0x45000001)) (NoColour 5)
+    ∷ row 12 (lookup (bits 0x45000001) zero32) (refused 5)
+    ∷ row 12 (lookup zero32 (bits 0x45000001)) (refused 5)
     ∷ []

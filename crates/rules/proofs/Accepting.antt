@@ -2,6 +2,8 @@
 -- check_chain answers yes exactly if 01's chain of its level 0 was lent, and exactly if check_level does for every level; what the chain
 -- call leaves it always accepts; of an accepted chain it accepts the part from any level on; and where one texel of an accepted chain
 -- is changed, it says where. Assumes nothing.
+use Rattle.std.specs.Prelude.{None, Ok, Err, Result, Option, Some}
+use Rattle.rules.specs.Answers.{refused}
 use mathlib.Core.Path.{◌≡◌, sym, ap, ◌∙◌}
 use mathlib.Core.Bool.{Bool, true, false, false≢true}
 use mathlib.Core.Logic.{◌⊎◌, inl, inr, ⊎_elim}
@@ -11,10 +13,7 @@ use native.Mathlib.Nat.{le_trans}
 use native.Mathlib.Omega.{arith}
 use lib.ListN.{length, get_or, take, drop, set, length-set, length-drop}
 use lib.Seq.{take-add, drop_at, length-take-le}
-use Rattle.rules.specs.declared.Checked.{Checked}
-use Rattle.rules.specs.declared.Checked.TheVariants.{Of as Judged, Refused as NotJudged}
-use Rattle.rules.specs.declared.Verdict.{Verdict}
-use Rattle.rules.specs.declared.Verdict.TheVariants.{Follows, WrongAt}
+use Rattle.rules.specs.declared.Refusal.{Refusal}
 use Rattle.rules.specs.Kinds.{faces_of}
 use Rattle.rules.specs.Sizes.{side_at, top, size_at, start, count}
 use Rattle.rules.specs.Levels.{level}
@@ -35,24 +34,24 @@ use Rattle.rules.proofs.OneWrong.{others-follow, one-wrong, one-wrong-below}
 
 -- ---- what an answer says
 
-abbrev judged-yes : Checked → Bool
-judged-yes (Judged v) = true
-judged-yes (NotJudged n) = false
+abbrev judged-yes : Result (Option ℕ) Refusal → Bool
+judged-yes (Ok v) = true
+judged-yes (Err refusal) = false
 
-abbrev verdict-in : Checked → Verdict
-verdict-in (Judged v) = v
-verdict-in (NotJudged n) = Follows
+abbrev verdict-in : Result (Option ℕ) Refusal → Option ℕ
+verdict-in (Ok v) = v
+verdict-in (Err refusal) = None
 
 module _ (kind w h mode : ℕ) (l : List ℕ) where
-  pub check-judged : Mipmapped kind w h mode (length l) → check_chain_answer kind w h mode l ≡ Judged (chain_verdict_of kind (packing_of mode) w h l)
+  pub check-judged : Mipmapped kind w h mode (length l) → check_chain_answer kind w h mode l ≡ Ok (chain_verdict_of kind (packing_of mode) w h l)
   unfolding check_chain_answer
   check-judged c = answer-given _ _ _ (mipmaps-taken kind w h mode (length l) c)
 
-  pub level-judged : Mipmapped kind w h mode (length l) → (m : ℕ) → m ≤ top w h → check_level_answer kind w h mode l m ≡ Judged (level_verdict_of kind (packing_of mode) w h l m)
+  pub level-judged : Mipmapped kind w h mode (length l) → (m : ℕ) → m ≤ top w h → check_level_answer kind w h mode l m ≡ Ok (level_verdict_of kind (packing_of mode) w h l m)
   unfolding check_level_answer
   level-judged c m le = answer-given _ _ _ (check-taken kind w h mode (length l) m (record { mipmapped = c; below = le }))
 
-  pub check-refused : (mipmaps_refusal kind w h mode (length l) ≡ 0 → ⊥) → check_chain_answer kind w h mode l ≡ NotJudged (mipmaps_refusal kind w h mode (length l))
+  pub check-refused : (mipmaps_refusal kind w h mode (length l) ≡ 0 → ⊥) → check_chain_answer kind w h mode l ≡ refused (mipmaps_refusal kind w h mode (length l))
   unfolding check_chain_answer
   check-refused some = answer-refused _ _ _ some
 
@@ -61,33 +60,33 @@ module _ (kind w h mode : ℕ) (l : List ℕ) where
   chain-found some = answer-refused _ _ _ some
 
   -- a verdict is no refusal
-  pub judged-taken : {v : Verdict} → check_chain_answer kind w h mode l ≡ Judged v → Mipmapped kind w h mode (length l)
+  pub judged-taken : {v : Option ℕ} → check_chain_answer kind w h mode l ≡ Ok v → Mipmapped kind w h mode (length l)
   judged-taken e =
       ⊎_elim
       (λ none. mipmaps-facts kind w h mode (length l) none)
       (λ some. absurd (false≢true (ap judged-yes (sym (check-refused some) ∙ e))))
       (none_or_some (mipmaps_refusal kind w h mode (length l)))
 
-  pub judged-is : {v : Verdict} → check_chain_answer kind w h mode l ≡ Judged v → chain_verdict_of kind (packing_of mode) w h l ≡ v
+  pub judged-is : {v : Option ℕ} → check_chain_answer kind w h mode l ≡ Ok v → chain_verdict_of kind (packing_of mode) w h l ≡ v
   judged-is e = ap verdict-in (sym (check-judged (judged-taken e)) ∙ e)
 
   -- ---- check_chain by check_level
 
-  pub yes-levels : check_chain_answer kind w h mode l ≡ Judged Follows → (m : ℕ) → m ≤ top w h → check_level_answer kind w h mode l m ≡ Judged Follows
+  pub yes-levels : check_chain_answer kind w h mode l ≡ Ok None → (m : ℕ) → m ≤ top w h → check_level_answer kind w h mode l m ≡ Ok None
   unfolding level_verdict_of chain_verdict_of
   yes-levels e m le =
       level-judged (judged-taken e) m le
-      ∙ ap Judged (levels-all (reduce_of kind (packing_of mode)) (faces_of kind) w h l (suc (top w h)) (judged-is e) m (omega arith))
+      ∙ ap Ok (levels-all (reduce_of kind (packing_of mode)) (faces_of kind) w h l (suc (top w h)) (judged-is e) m (omega arith))
 
-  pub levels-yes : Mipmapped kind w h mode (length l) → ((m : ℕ) → m ≤ top w h → check_level_answer kind w h mode l m ≡ Judged Follows) → check_chain_answer kind w h mode l ≡ Judged Follows
+  pub levels-yes : Mipmapped kind w h mode (length l) → ((m : ℕ) → m ≤ top w h → check_level_answer kind w h mode l m ≡ Ok None) → check_chain_answer kind w h mode l ≡ Ok None
   unfolding level_verdict_of chain_verdict_of
   levels-yes c all =
       check-judged c
-      ∙ ap Judged (levels-none (reduce_of kind (packing_of mode)) (faces_of kind) w h l (suc (top w h)) (λ m lt. ap verdict-in (sym (level-judged c m (omega arith)) ∙ all m (omega arith))))
+      ∙ ap Ok (levels-none (reduce_of kind (packing_of mode)) (faces_of kind) w h l (suc (top w h)) (λ m lt. ap verdict-in (sym (level-judged c m (omega arith)) ∙ all m (omega arith))))
 
   -- else its answer is that of the first level that does not follow
-  pub no-levels : {p : ℕ} → check_chain_answer kind w h mode l ≡ Judged (WrongAt p)
-      → (m : ℕ) × (m ≤ top w h) × (check_level_answer kind w h mode l m ≡ Judged (WrongAt p)) × ((j : ℕ) → j < m → check_level_answer kind w h mode l j ≡ Judged Follows)
+  pub no-levels : {p : ℕ} → check_chain_answer kind w h mode l ≡ Ok (Some p)
+      → (m : ℕ) × (m ≤ top w h) × (check_level_answer kind w h mode l m ≡ Ok (Some p)) × ((j : ℕ) → j < m → check_level_answer kind w h mode l j ≡ Ok None)
   unfolding level_verdict_of chain_verdict_of
   no-levels {p} e =
       let c = judged-taken e in
@@ -99,8 +98,8 @@ module _ (kind w h mode : ℕ) (l : List ℕ) where
       let q : some.1 ≡ p = ap place_of (sym some.3 ∙ judged-is e) in (
         m,
         omega arith,
-        level-judged c m (omega arith) ∙ ap Judged (some.4 ∙ ap WrongAt q),
-        λ j below. level-judged c j (omega arith) ∙ ap Judged (some.5 j below),
+        level-judged c m (omega arith) ∙ ap Ok (some.4 ∙ ap Some q),
+        λ j below. level-judged c j (omega arith) ∙ ap Ok (some.5 j below),
       ))
       (levels-judged (reduce_of kind (packing_of mode)) (faces_of kind) w h l (suc (top w h)))
 
@@ -110,7 +109,7 @@ module _ (kind w h mode : ℕ) (l : List ℕ) where
   unfolding standing start
   level0-stands pw ph = rw (size-zero (faces_of kind) w h pw ph)
 
-  pub yes-chain : check_chain_answer kind w h mode l ≡ Judged Follows → take (count (faces_of kind) w h) l ≡ chain_of kind (packing_of mode) w h (level0 kind w h l)
+  pub yes-chain : check_chain_answer kind w h mode l ≡ Ok None → take (count (faces_of kind) w h) l ≡ chain_of kind (packing_of mode) w h (level0 kind w h l)
   unfolding chain_verdict_of chain_of count
   yes-chain e =
       let c = (judged-taken e).chained in
@@ -118,18 +117,18 @@ module _ (kind w h mode : ℕ) (l : List ℕ) where
       follows-chain (reduce_of kind (packing_of mode)) (faces_of kind) w h l t.some-w t.some-h (suc (top w h)) c.room (judged-is e)
       ∙ rw (level0-stands t.some-w t.some-h)
 
-  pub chain-yes : Mipmapped kind w h mode (length l) → take (count (faces_of kind) w h) l ≡ chain_of kind (packing_of mode) w h (level0 kind w h l) → check_chain_answer kind w h mode l ≡ Judged Follows
+  pub chain-yes : Mipmapped kind w h mode (length l) → take (count (faces_of kind) w h) l ≡ chain_of kind (packing_of mode) w h (level0 kind w h l) → check_chain_answer kind w h mode l ≡ Ok None
   unfolding chain_verdict_of chain_of count
   chain-yes m e =
       let t = m.chained.taken in
       check-judged m
-      ∙ ap Judged (chain-follows (reduce_of kind (packing_of mode)) (faces_of kind) w h l t.some-w t.some-h (suc (top w h)) m.chained.room (e ∙ rw (level0-stands t.some-w t.some-h)))
+      ∙ ap Ok (chain-follows (reduce_of kind (packing_of mode)) (faces_of kind) w h l t.some-w t.some-h (suc (top w h)) m.chained.room (e ∙ rw (level0-stands t.some-w t.some-h)))
 
 -- ---- what the chain call leaves
 
 -- WHAT THE CHAIN CALL WRITES IS ACCEPTED, for every buffer that it was lent; one that it refuses is refused here by the same number
 pub left-accepted : (kind w h mode : ℕ) (buffer : List ℕ)
-    → check_chain_answer kind w h mode (chain_leaves kind w h mode buffer) ≡ answer (mipmaps_refusal kind w h mode (length buffer)) NotJudged (Judged Follows)
+    → check_chain_answer kind w h mode (chain_leaves kind w h mode buffer) ≡ answer (mipmaps_refusal kind w h mode (length buffer)) refused (Ok None)
 left-accepted kind w h mode buffer =
     ⊎_elim
     (λ none.
@@ -148,7 +147,7 @@ tail-part : (n k : ℕ) (l : List ℕ) → n ≤ length l → take k (drop n l) 
 tail-part n k l le = sym (ap (drop n) (take-add n k l) ∙ drop_at (take n l) (take k (drop n l)) n (length-take-le n l le))
 
 -- OF AN ACCEPTED CHAIN THE PART FROM LEVEL a ON IS ACCEPTED, as a chain of level a's sides
-module _ (kind w h mode a : ℕ) (l : List ℕ) (yes : check_chain_answer kind w h mode l ≡ Judged Follows) (le : a ≤ top w h) where
+module _ (kind w h mode a : ℕ) (l : List ℕ) (yes : check_chain_answer kind w h mode l ≡ Ok None) (le : a ≤ top w h) where
   tail-taken : Mipmapped kind (side_at a w) (side_at a h) mode (length (drop (start (faces_of kind) w h a) l))
   tail-taken =
       let c = judged-taken kind w h mode l yes in
@@ -177,7 +176,7 @@ module _ (kind w h mode a : ℕ) (l : List ℕ) (yes : check_chain_answer kind w
       follows-levels (reduce_of kind (packing_of mode)) (faces_of kind) w h l t.some-w t.some-h (suc (top w h)) c.room (judged-is kind w h mode l yes) a (omega arith)
       ∙ ap (level (reduce_of kind (packing_of mode)) (faces_of kind) a w h) (level0-stands kind w h mode l t.some-w t.some-h)
 
-  pub tail-accepted : check_chain_answer kind (side_at a w) (side_at a h) mode (drop (start (faces_of kind) w h a) l) ≡ Judged Follows
+  pub tail-accepted : check_chain_answer kind (side_at a w) (side_at a h) mode (drop (start (faces_of kind) w h a) l) ≡ Ok None
   tail-accepted =
       let F = faces_of kind in
       let c = judged-taken kind w h mode l yes in
@@ -196,7 +195,7 @@ module _ (kind w h mode a : ℕ) (l : List ℕ) (yes : check_chain_answer kind w
 -- ---- one wrong texel
 
 -- ONE TEXEL OF AN ACCEPTED CHAIN IS CHANGED, that at place p of level m
-module _ (kind w h mode : ℕ) (l : List ℕ) (m p t : ℕ) (yes : check_chain_answer kind w h mode l ≡ Judged Follows) (level : m ≤ top w h)
+module _ (kind w h mode : ℕ) (l : List ℕ) (m p t : ℕ) (yes : check_chain_answer kind w h mode l ≡ Ok None) (level : m ≤ top w h)
     (from : start (faces_of kind) w h m ≤ p) (before : p < start (faces_of kind) w h (suc m)) (other : t ≡ get_or l p 0 → ⊥) where
   taken : Mipmapped kind w h mode (length l)
   taken = judged-taken kind w h mode l yes
@@ -205,26 +204,26 @@ module _ (kind w h mode : ℕ) (l : List ℕ) (m p t : ℕ) (yes : check_chain_a
   still = rw (length-set l p t) taken
 
   -- above level 0 the answer is exactly that place
-  pub changed-above : 0 < m → check_chain_answer kind w h mode (set l p t) ≡ Judged (WrongAt p)
+  pub changed-above : 0 < m → check_chain_answer kind w h mode (set l p t) ≡ Ok (Some p)
   unfolding chain_verdict_of count
   changed-above some =
       check-judged kind w h mode (set l p t) still
-      ∙ ap Judged (one-wrong (reduce_of kind (packing_of mode)) (faces_of kind) w h l (top w h) m p t (judged-is kind w h mode l yes) taken.chained.room level from before other (m - 1) (omega arith))
+      ∙ ap Ok (one-wrong (reduce_of kind (packing_of mode)) (faces_of kind) w h l (top w h) m p t (judged-is kind w h mode l yes) taken.chained.room level from before other (m - 1) (omega arith))
 
   -- in level 0 it is yes, or the place of the one texel of level 1 that is made from it
   pub changed-below : m ≡ 0
-      → (check_chain_answer kind w h mode (set l p t) ≡ Judged Follows) ⊎ (check_chain_answer kind w h mode (set l p t) ≡ Judged (WrongAt (child (faces_of kind) w h 0 p)))
+      → (check_chain_answer kind w h mode (set l p t) ≡ Ok None) ⊎ (check_chain_answer kind w h mode (set l p t) ≡ Ok (Some (child (faces_of kind) w h 0 p)))
   unfolding chain_verdict_of count
   changed-below e =
       let judged = check-judged kind w h mode (set l p t) still in
       ⊎_elim
-      (λ a. inl (judged ∙ ap Judged a))
-      (λ a. inr (judged ∙ ap Judged a))
+      (λ a. inl (judged ∙ ap Ok a))
+      (λ a. inr (judged ∙ ap Ok a))
       (one-wrong-below (reduce_of kind (packing_of mode)) (faces_of kind) w h l (top w h) m p t (judged-is kind w h mode l yes) taken.chained.room level from before other e)
 
   -- and every level but m and m + 1 follows
-  pub changed-else : (j : ℕ) → j ≤ top w h → (j ≡ m → ⊥) → (j ≡ suc m → ⊥) → check_level_answer kind w h mode (set l p t) j ≡ Judged Follows
+  pub changed-else : (j : ℕ) → j ≤ top w h → (j ≡ m → ⊥) → (j ≡ suc m → ⊥) → check_level_answer kind w h mode (set l p t) j ≡ Ok None
   unfolding chain_verdict_of level_verdict_of count
   changed-else j le a b =
       level-judged kind w h mode (set l p t) still j le
-      ∙ ap Judged (others-follow (reduce_of kind (packing_of mode)) (faces_of kind) w h l (top w h) m p t (judged-is kind w h mode l yes) taken.chained.room level from before other j le a b)
+      ∙ ap Ok (others-follow (reduce_of kind (packing_of mode)) (faces_of kind) w h l (top w h) m p t (judged-is kind w h mode l yes) taken.chained.room level from before other j le a b)

@@ -1,6 +1,7 @@
 -- The two laws of repeated reduction, of the calls: over what their contracts say they answer and leave (specs/Answers), for every
 -- input that they do not refuse. A chain call leaves 01's chain, and the view hands out its levels, so both follow from the laws of
 -- pictures. Assumes nothing.
+use Rattle.std.specs.Prelude.{Ok}
 use mathlib.Core.Path.{◌≡◌, sym, ap, ◌∙◌}
 use mathlib.Core.List.{List, ◌++◌}
 use Prim.Native.Nat.{ℕ, ◌+◌, ◌-◌, ◌*◌, ◌/◌, ◌^◌, ◌≤◌, ◌<◌}
@@ -9,7 +10,6 @@ use native.Mathlib.Omega.{arith}
 use lib.ListN.{length, take, drop, length-append, length-drop}
 use lib.Seq.{take_at, drop-drop, get_or-take}
 use Rattle.rules.specs.declared.Pair.{Pair}
-use Rattle.rules.specs.declared.Filled.TheVariants.{Texels}
 use Rattle.rules.specs.Kinds.{cubemap, faces_of}
 use Rattle.rules.specs.Sizes.{side_at, top, size_at, start, count}
 use Rattle.rules.specs.Levels.{texel}
@@ -47,11 +47,11 @@ module _ (kind w h mode a : ℕ) (buffer copy : List ℕ) (given : mipmaps_refus
       record { chained = record { taken = taken_of p; room = room }; known = first.known }
 
   -- it is not refused, and answers as many texels as the first chain has from level a on
-  pub reopened-answer : (chain_answer kind (side_at a w) (side_at a h) mode copy ≡ Texels (count (faces_of kind) (side_at a w) (side_at a h)))
-      × (chain_answer kind w h mode buffer ≡ Texels (start (faces_of kind) w h a + count (faces_of kind) (side_at a w) (side_at a h)))
+  pub reopened-answer : (chain_answer kind (side_at a w) (side_at a h) mode copy ≡ Ok (count (faces_of kind) (side_at a w) (side_at a h)))
+      × (chain_answer kind w h mode buffer ≡ Ok (start (faces_of kind) w h a + count (faces_of kind) (side_at a w) (side_at a h)))
   reopened-answer = (
     chain-answered kind (side_at a w) (side_at a h) mode copy second,
-    chain-answered kind w h mode buffer first ∙ ap Texels (count-side (faces_of kind) w h a first.chained.taken.some-w le),
+    chain-answered kind w h mode buffer first ∙ ap Ok (count-side (faces_of kind) w h a first.chained.taken.some-w le),
   )
 
   -- it leaves at the front exactly the tail of the first chain, and behind that what it found
@@ -140,8 +140,8 @@ module _ (kind w h mode k : ℕ) (corner sides : Pair) (source target : List ℕ
       }
 
   -- neither call is refused
-  pub cut-answers : (cut_answer kind w h source k corner sides target ≡ Texels (sides.y * sides.x))
-      × (chain_answer kind sides.x sides.y mode (cut_leaves kind w h source k corner sides target) ≡ Texels (count (faces_of kind) sides.x sides.y))
+  pub cut-answers : (cut_answer kind w h source k corner sides target ≡ Ok (sides.y * sides.x))
+      × (chain_answer kind sides.x sides.y mode (cut_leaves kind w h source k corner sides target) ≡ Ok (count (faces_of kind) sides.x sides.y))
   unfolding cut_answer
   cut-answers = (answer-given _ _ _ taken, chain-answered kind sides.x sides.y mode (cut_leaves kind w h source k corner sides target) piece)
 

@@ -1,6 +1,7 @@
 -- Verdicts by their places. A level's verdict is the smallest of its places that is not right; a chain's is that of the first of its
 -- levels that has one, and since the levels lie behind each other it is the smallest of them all. For any number of faces and any way
 -- to make one texel of four. Assumes nothing.
+use Rattle.std.specs.Prelude.{None, Option, Some}
 use mathlib.Core.Path.{◌≡◌, refl, sym, ap, ◌∙◌}
 use mathlib.Core.Bool.{Bool, true, false, false≢true, true≢false}
 use mathlib.Core.Logic.{◌⊎◌, inl, inr, ⊎_elim}
@@ -11,8 +12,6 @@ use native.Mathlib.Decide.{dec_le}
 use native.Mathlib.Omega.{arith}
 use borrow.Author.Tests.{eq-eqb, ne_eqb, eqb-true, eqb-false}
 use lib.ListN.{get_or}
-use Rattle.rules.specs.declared.Verdict.{Verdict}
-use Rattle.rules.specs.declared.Verdict.TheVariants.{Follows, WrongAt}
 use Rattle.rules.specs.Sizes.{side_at, size_at, start}
 use Rattle.rules.specs.Levels.{next}
 use Rattle.rules.proofs.Sides.{start-suc}
@@ -26,12 +25,12 @@ two true = inl refl
 two false = inr refl
 
 module _ (right : ℕ → Bool) where
-  pub first-none : (i n : ℕ) → ((k : ℕ) → i ≤ k → k < i + n → right k ≡ true) → first_wrong right i n ≡ Follows
+  pub first-none : (i n : ℕ) → ((k : ℕ) → i ≤ k → k < i + n → right k ≡ true) → first_wrong right i n ≡ None
   unfolding first_wrong
   first-none i zero all = refl
   first-none i (suc n) all = rw (all i (omega arith) (omega arith)) (first-none (suc i) n (λ k le lt. all k (omega arith) (omega arith)))
 
-  pub first_some : (i n p : ℕ) → i ≤ p → p < i + n → right p ≡ false → ((k : ℕ) → i ≤ k → k < p → right k ≡ true) → first_wrong right i n ≡ WrongAt p
+  pub first_some : (i n p : ℕ) → i ≤ p → p < i + n → right p ≡ false → ((k : ℕ) → i ≤ k → k < p → right k ≡ true) → first_wrong right i n ≡ Some p
   unfolding first_wrong
   first_some i zero p le lt wrong before = absurd (omega arith)
   first_some i (suc n) p le lt wrong before =
@@ -73,20 +72,20 @@ module _ (right : ℕ → Bool) where
 
 -- ---- a verdict is one or the other
 
-pub verdict-of : (v : Verdict) → (v ≡ Follows) ⊎ ((p : ℕ) × (v ≡ WrongAt p))
-verdict-of Follows = inl refl
-verdict-of (WrongAt p) = inr (p, refl)
+pub verdict-of : (v : Option ℕ) → (v ≡ None) ⊎ ((p : ℕ) × (v ≡ Some p))
+verdict-of None = inl refl
+verdict-of (Some p) = inr (p, refl)
 
-abbrev wrong-verdict : Verdict → Bool
-wrong-verdict Follows = false
-wrong-verdict (WrongAt p) = true
+abbrev wrong-verdict : Option ℕ → Bool
+wrong-verdict None = false
+wrong-verdict (Some p) = true
 
-pub not-both : {v : Verdict} {p : ℕ} → v ≡ Follows → v ≡ WrongAt p → ⊥
+pub not-both : {v : Option ℕ} {p : ℕ} → v ≡ None → v ≡ Some p → ⊥
 not-both e f = false≢true (ap wrong-verdict (sym e ∙ f))
 
-abbrev pub place_of : Verdict → ℕ
-place_of Follows = 0
-place_of (WrongAt p) = p
+abbrev pub place_of : Option ℕ → ℕ
+place_of None = 0
+place_of (Some p) = p
 
 module _ (reduce : ℕ → ℕ → ℕ → ℕ → ℕ) (faces w h : ℕ) (l : List ℕ) where
   -- ---- one level
@@ -104,8 +103,8 @@ module _ (reduce : ℕ → ℕ → ℕ → ℕ → ℕ) (faces w h : ℕ) (l : L
 
   -- it follows and has no wrong texel, or its verdict is the smallest place of one
   level-judged : (m : ℕ)
-      → ((level_verdict reduce faces w h l (suc m) ≡ Follows) × ((i : ℕ) → Wrong reduce faces w h l m i → ⊥))
-      ⊎ ((p : ℕ) × (level_verdict reduce faces w h l (suc m) ≡ WrongAt p) × Wrong reduce faces w h l m p × ((i : ℕ) → Wrong reduce faces w h l m i → p ≤ i))
+      → ((level_verdict reduce faces w h l (suc m) ≡ None) × ((i : ℕ) → Wrong reduce faces w h l m i → ⊥))
+      ⊎ ((p : ℕ) × (level_verdict reduce faces w h l (suc m) ≡ Some p) × Wrong reduce faces w h l m p × ((i : ℕ) → Wrong reduce faces w h l m i → p ≤ i))
   unfolding level_verdict
   level-judged m =
       let right = right_at reduce faces w h l m in
@@ -126,11 +125,11 @@ module _ (reduce : ℕ → ℕ → ℕ → ℕ → ℕ) (faces w h : ℕ) (l : L
       ))
       (first-judged right i n)
 
-  pub no-wrong-level : (m : ℕ) → ((i : ℕ) → Wrong reduce faces w h l m i → ⊥) → level_verdict reduce faces w h l (suc m) ≡ Follows
+  pub no-wrong-level : (m : ℕ) → ((i : ℕ) → Wrong reduce faces w h l m i → ⊥) → level_verdict reduce faces w h l (suc m) ≡ None
   no-wrong-level m none = ⊎_elim (λ a. a.0) (λ some. absurd (none some.0 some.2)) (level-judged m)
 
   -- a level follows exactly if each of its texels is the one that is due
-  pub level-texels : (m : ℕ) → level_verdict reduce faces w h l (suc m) ≡ Follows → (k : ℕ) → k < size_at faces w h (suc m)
+  pub level-texels : (m : ℕ) → level_verdict reduce faces w h l (suc m) ≡ None → (k : ℕ) → k < size_at faces w h (suc m)
       → get_or l (start faces w h (suc m) + k) 0 ≡ due reduce faces w h l m (start faces w h (suc m) + k)
   unfolding level_verdict
   level-texels m e k lt =
@@ -140,7 +139,7 @@ module _ (reduce : ℕ → ℕ → ℕ → ℕ → ℕ) (faces w h : ℕ) (l : L
       (first-judged (right_at reduce faces w h l m) (start faces w h (suc m)) (size_at faces w h (suc m)))
 
   pub texels-level : (m : ℕ) → ((k : ℕ) → k < size_at faces w h (suc m) → get_or l (start faces w h (suc m) + k) 0 ≡ due reduce faces w h l m (start faces w h (suc m) + k))
-      → level_verdict reduce faces w h l (suc m) ≡ Follows
+      → level_verdict reduce faces w h l (suc m) ≡ None
   unfolding level_verdict
   texels-level m all =
       first-none _ _ _ λ i le lt.
@@ -149,12 +148,12 @@ module _ (reduce : ℕ → ℕ → ℕ → ℕ → ℕ) (faces w h : ℕ) (l : L
 
   -- ---- levels
 
-  pub levels-more : (n : ℕ) → levels_verdict reduce faces w h l n ≡ Follows → levels_verdict reduce faces w h l (suc n) ≡ level_verdict reduce faces w h l n
+  pub levels-more : (n : ℕ) → levels_verdict reduce faces w h l n ≡ None → levels_verdict reduce faces w h l (suc n) ≡ level_verdict reduce faces w h l n
   unfolding levels_verdict
   levels-more n e = rw e
 
   -- a wrong place stays the verdict, whatever stands above
-  pub levels-stop : (n k p : ℕ) → levels_verdict reduce faces w h l n ≡ WrongAt p → n ≤ k → levels_verdict reduce faces w h l k ≡ WrongAt p
+  pub levels-stop : (n k p : ℕ) → levels_verdict reduce faces w h l n ≡ Some p → n ≤ k → levels_verdict reduce faces w h l k ≡ Some p
   unfolding levels_verdict
   levels-stop n zero p e le = let z : n ≡ 0 = omega arith in ap (levels_verdict reduce faces w h l) (sym z) ∙ e
   levels-stop n (suc k) p e le =
@@ -165,9 +164,9 @@ module _ (reduce : ℕ → ℕ → ℕ → ℕ → ℕ) (faces w h : ℕ) (l : L
 
   -- all n follow, or one is the first that does not
   pub levels-judged : (n : ℕ)
-      → ((levels_verdict reduce faces w h l n ≡ Follows) × ((m : ℕ) → m < n → level_verdict reduce faces w h l m ≡ Follows))
-      ⊎ ((m : ℕ) × (p : ℕ) × (m < n) × (levels_verdict reduce faces w h l n ≡ WrongAt p) × (level_verdict reduce faces w h l m ≡ WrongAt p)
-      × ((j : ℕ) → j < m → level_verdict reduce faces w h l j ≡ Follows))
+      → ((levels_verdict reduce faces w h l n ≡ None) × ((m : ℕ) → m < n → level_verdict reduce faces w h l m ≡ None))
+      ⊎ ((m : ℕ) × (p : ℕ) × (m < n) × (levels_verdict reduce faces w h l n ≡ Some p) × (level_verdict reduce faces w h l m ≡ Some p)
+      × ((j : ℕ) → j < m → level_verdict reduce faces w h l j ≡ None))
   unfolding levels_verdict
   levels-judged zero = inl (refl, λ m lt. absurd (omega arith))
   levels-judged (suc n) =
@@ -180,10 +179,10 @@ module _ (reduce : ℕ → ℕ → ℕ → ℕ → ℕ) (faces w h : ℕ) (l : L
       (λ some. let lt = some.2 in inr (some.0, some.1, omega arith, levels-stop n (suc n) some.1 some.3 (omega arith), some.4, some.5))
       (levels-judged n)
 
-  pub levels-none : (n : ℕ) → ((m : ℕ) → m < n → level_verdict reduce faces w h l m ≡ Follows) → levels_verdict reduce faces w h l n ≡ Follows
+  pub levels-none : (n : ℕ) → ((m : ℕ) → m < n → level_verdict reduce faces w h l m ≡ None) → levels_verdict reduce faces w h l n ≡ None
   levels-none n all = ⊎_elim (λ a. a.0) (λ some. absurd (not-both (all some.0 some.2) some.4)) (levels-judged n)
 
-  pub levels-all : (n : ℕ) → levels_verdict reduce faces w h l n ≡ Follows → (m : ℕ) → m < n → level_verdict reduce faces w h l m ≡ Follows
+  pub levels-all : (n : ℕ) → levels_verdict reduce faces w h l n ≡ None → (m : ℕ) → m < n → level_verdict reduce faces w h l m ≡ None
   levels-all n e = ⊎_elim (λ a. a.1) (λ some. absurd (not-both e some.3)) (levels-judged n)
 
   -- ---- the smallest place of all
@@ -195,10 +194,10 @@ module _ (reduce : ℕ → ℕ → ℕ → ℕ → ℕ) (faces w h : ℕ) (l : L
     pub wrong : Wrong reduce faces w h l level p
     pub least : (m i : ℕ) → m < n → Wrong reduce faces w h l m i → p ≤ i
 
-  none-wrong : (n : ℕ) → ((m : ℕ) → m < n → level_verdict reduce faces w h l m ≡ Follows) → (m i : ℕ) → suc m < n → Wrong reduce faces w h l m i → ⊥
+  none-wrong : (n : ℕ) → ((m : ℕ) → m < n → level_verdict reduce faces w h l m ≡ None) → (m i : ℕ) → suc m < n → Wrong reduce faces w h l m i → ⊥
   none-wrong n all m i lt x = ⊎_elim (λ a. a.1 i x) (λ some. not-both (all (suc m) lt) some.1) (level-judged m)
 
-  smallest-at : (n m p : ℕ) → m < suc n → level_verdict reduce faces w h l m ≡ WrongAt p → ((j : ℕ) → j < m → level_verdict reduce faces w h l j ≡ Follows) → Smallest n p
+  smallest-at : (n m p : ℕ) → m < suc n → level_verdict reduce faces w h l m ≡ Some p → ((j : ℕ) → j < m → level_verdict reduce faces w h l j ≡ None) → Smallest n p
   unfolding level_verdict
   smallest-at n zero p lt e before = absurd (not-both refl e)
   smallest-at n (suc m) p lt e before =
@@ -223,10 +222,10 @@ module _ (reduce : ℕ → ℕ → ℕ → ℕ → ℕ) (faces w h : ℕ) (l : L
       (level-judged m)
 
   -- a chain of n levels above level 0 follows exactly if none of its texels is wrong
-  pub follows-none : (n : ℕ) → levels_verdict reduce faces w h l (suc n) ≡ Follows → (m i : ℕ) → m < n → Wrong reduce faces w h l m i → ⊥
+  pub follows-none : (n : ℕ) → levels_verdict reduce faces w h l (suc n) ≡ None → (m i : ℕ) → m < n → Wrong reduce faces w h l m i → ⊥
   follows-none n e m i lt x = none-wrong (suc n) (levels-all (suc n) e) m i (omega arith) x
 
-  pub none-follows : (n : ℕ) → ((m i : ℕ) → m < n → Wrong reduce faces w h l m i → ⊥) → levels_verdict reduce faces w h l (suc n) ≡ Follows
+  pub none-follows : (n : ℕ) → ((m i : ℕ) → m < n → Wrong reduce faces w h l m i → ⊥) → levels_verdict reduce faces w h l (suc n) ≡ None
   none-follows n none =
       ⊎_elim
       (λ a. a.0)
@@ -234,7 +233,7 @@ module _ (reduce : ℕ → ℕ → ℕ → ℕ → ℕ) (faces w h : ℕ) (l : L
       (levels-judged (suc n))
 
   -- and else its verdict is exactly the smallest place of one
-  pub wrong-smallest : (n p : ℕ) → levels_verdict reduce faces w h l (suc n) ≡ WrongAt p → Smallest n p
+  pub wrong-smallest : (n p : ℕ) → levels_verdict reduce faces w h l (suc n) ≡ Some p → Smallest n p
   wrong-smallest n p e =
       ⊎_elim
       (λ a. absurd (not-both a.0 e))
@@ -243,7 +242,7 @@ module _ (reduce : ℕ → ℕ → ℕ → ℕ → ℕ) (faces w h : ℕ) (l : L
       rw z at (smallest-at n some.0 some.1 some.2 some.4 some.5))
       (levels-judged (suc n))
 
-  pub smallest-wrong : (n p : ℕ) → Smallest n p → levels_verdict reduce faces w h l (suc n) ≡ WrongAt p
+  pub smallest-wrong : (n p : ℕ) → Smallest n p → levels_verdict reduce faces w h l (suc n) ≡ Some p
   smallest-wrong n p s =
       ⊎_elim
       (λ e. absurd (follows-none n e s.level p s.below s.wrong))
@@ -252,5 +251,5 @@ module _ (reduce : ℕ → ℕ → ℕ → ℕ → ℕ) (faces w h : ℕ) (l : L
       let a = s.least t.level some.0 t.below t.wrong in
       let b = t.least s.level p s.below s.wrong in
       let z : some.0 ≡ p = omega arith in
-      some.1 ∙ ap WrongAt z)
+      some.1 ∙ ap Some z)
       (verdict-of (levels_verdict reduce faces w h l (suc n)))

@@ -1,5 +1,6 @@
 -- Small pictures and numbers, worked out by antt itself from the definitions: where levels, faces and cuts stand, which four texels
 -- are taken, in which order refusals are given, and the slips that look right. Assumes nothing.
+use Rattle.std.specs.Prelude.{None, Some}
 use mathlib.Core.Path.{◌≡◌, refl}
 use mathlib.Core.Bool.{true, false}
 use mathlib.Core.List.{[], ◌∷◌, ◌++◌}
@@ -17,7 +18,6 @@ use Rattle.rules.specs.Whole.{upward_of}
 use Rattle.rules.specs.Packing.{packing_code, pack_of}
 use Rattle.rules.specs.Reducing.{each_of, mean_byte, linear_of, normal_mean, normal_byte, normal_of, reduce_of}
 use Rattle.rules.specs.Pictures.{chain_of, filled_of}
-use Rattle.rules.specs.declared.Verdict.TheVariants.{Follows, WrongAt}
 use Rattle.rules.specs.Checks.{standing, first_wrong, due, level_verdict, levels_verdict, child}
 use Rattle.rules.specs.Wrapping.{wrap_code, mode_of, remainder_of, mirrored_of, wrap_of}
 use Rattle.rules.specs.Faces.{sign_of, odd_of, spot_at, spot_of}
@@ -180,18 +180,18 @@ upper2 : ℕ → ℕ → ℕ → ℕ → ℕ
 upper2 a b c d = a + b
 
 -- 4 by 1: it follows, and what stands behind it is not looked at
-four-wide-follows : (levels_verdict upper2 1 4 1 (1 ∷ 2 ∷ 3 ∷ 4 ∷ 3 ∷ 7 ∷ 10 ∷ []) 3 ≡ Follows) × (levels_verdict upper2 1 4 1 (1 ∷ 2 ∷ 3 ∷ 4 ∷ 3 ∷ 7 ∷ 10 ∷ 9 ∷ []) 3 ≡ Follows)
+four-wide-follows : (levels_verdict upper2 1 4 1 (1 ∷ 2 ∷ 3 ∷ 4 ∷ 3 ∷ 7 ∷ 10 ∷ []) 3 ≡ None) × (levels_verdict upper2 1 4 1 (1 ∷ 2 ∷ 3 ∷ 4 ∷ 3 ∷ 7 ∷ 10 ∷ 9 ∷ []) 3 ≡ None)
 unfolding upper2 levels_verdict level_verdict first_wrong due standing start size_at side_at next grid tab quad texel
 four-wide-follows = (refl, refl)
 
 -- of two wrong texels the smaller place, and each level by the one before as it stands: 11 follows from 3 and 8
-two-wrong : (levels_verdict upper2 1 4 1 (1 ∷ 2 ∷ 3 ∷ 4 ∷ 2 ∷ 8 ∷ 10 ∷ []) 3 ≡ WrongAt 4) × (level_verdict upper2 1 4 1 (1 ∷ 2 ∷ 3 ∷ 4 ∷ 3 ∷ 8 ∷ 11 ∷ []) 1 ≡ WrongAt 5)
-    × (level_verdict upper2 1 4 1 (1 ∷ 2 ∷ 3 ∷ 4 ∷ 3 ∷ 8 ∷ 11 ∷ []) 2 ≡ Follows) × (level_verdict upper2 1 4 1 (1 ∷ 2 ∷ 3 ∷ 4 ∷ 3 ∷ 8 ∷ 11 ∷ []) 0 ≡ Follows)
+two-wrong : (levels_verdict upper2 1 4 1 (1 ∷ 2 ∷ 3 ∷ 4 ∷ 2 ∷ 8 ∷ 10 ∷ []) 3 ≡ Some 4) × (level_verdict upper2 1 4 1 (1 ∷ 2 ∷ 3 ∷ 4 ∷ 3 ∷ 8 ∷ 11 ∷ []) 1 ≡ Some 5)
+    × (level_verdict upper2 1 4 1 (1 ∷ 2 ∷ 3 ∷ 4 ∷ 3 ∷ 8 ∷ 11 ∷ []) 2 ≡ None) × (level_verdict upper2 1 4 1 (1 ∷ 2 ∷ 3 ∷ 4 ∷ 3 ∷ 8 ∷ 11 ∷ []) 0 ≡ None)
 unfolding upper2 levels_verdict level_verdict first_wrong due standing start size_at side_at next grid tab quad texel
 two-wrong = (refl, refl, refl, refl)
 
 -- a texel of level 0 is made into one of level 1; into none, where it stands in the third column of 3
-level-0-changed : (levels_verdict upper2 1 4 1 (1 ∷ 2 ∷ 3 ∷ 5 ∷ 3 ∷ 7 ∷ 10 ∷ []) 3 ≡ WrongAt 5) × (child 1 4 1 0 3 ≡ 5) × (levels_verdict upper2 1 3 1 (1 ∷ 2 ∷ 9 ∷ 3 ∷ []) 2 ≡ Follows)
+level-0-changed : (levels_verdict upper2 1 4 1 (1 ∷ 2 ∷ 3 ∷ 5 ∷ 3 ∷ 7 ∷ 10 ∷ []) 3 ≡ Some 5) × (child 1 4 1 0 3 ≡ 5) × (levels_verdict upper2 1 3 1 (1 ∷ 2 ∷ 9 ∷ 3 ∷ []) 2 ≡ None)
 unfolding upper2 levels_verdict level_verdict first_wrong due child standing start size_at side_at next grid tab quad texel
 level-0-changed = (refl, refl, refl)
 

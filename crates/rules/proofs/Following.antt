@@ -1,6 +1,7 @@
 -- A chain follows exactly if it is 01's chain of its level 0. A level that follows is the level after the one before, so by induction
 -- level m as it stands is level m; and levels behind each other are the chain. Hence what the chain call leaves follows, and of a chain
 -- that follows the part from level a on does, as a chain of level a's sides. Assumes nothing.
+use Rattle.std.specs.Prelude.{None}
 use mathlib.Core.Path.{◌≡◌, refl, sym, ap, ap₂, ◌∙◌}
 use mathlib.Core.List.{List, ◌++◌, append_assoc, append-nil}
 use Prim.Native.Nat.{ℕ, zero, suc, ◌+◌, ◌-◌, ◌≤◌, ◌<◌}
@@ -8,7 +9,6 @@ use native.Mathlib.Numerals.{add-one}
 use native.Mathlib.Omega.{arith}
 use lib.ListN.{length, get_or, take, drop, length-drop, take-append-drop}
 use lib.Seq.{length-take-le, take-add, get_or-take, get_or-drop, ext_get_or}
-use Rattle.rules.specs.declared.Verdict.TheVariants.{Follows}
 use Rattle.rules.specs.Sizes.{side_at, half, size_at, start}
 use Rattle.rules.specs.Levels.{next, level, chain}
 use Rattle.rules.specs.Checks.{standing, level_verdict, levels_verdict}
@@ -40,7 +40,7 @@ module _ (reduce : ℕ → ℕ → ℕ → ℕ → ℕ) (faces : ℕ) where
     get_or-standing m k lt = get_or-take (size_at faces w h m) _ k 0 lt ∙ get_or-drop (start faces w h m) l k 0
 
     -- a level follows exactly if it is the level after the one before
-    follows_next : (m : ℕ) → start faces w h (suc (suc m)) ≤ length l → level_verdict reduce faces w h l (suc m) ≡ Follows
+    follows_next : (m : ℕ) → start faces w h (suc (suc m)) ≤ length l → level_verdict reduce faces w h l (suc m) ≡ None
         → standing faces w h l (suc m) ≡ next reduce faces (side_at m w) (side_at m h) (standing faces w h l m)
     unfolding size_at
     follows_next m room e =
@@ -49,14 +49,14 @@ module _ (reduce : ℕ → ℕ → ℕ → ℕ → ℕ) (faces : ℕ) where
         (λ k lt. get_or-standing (suc m) k (omega arith) ∙ level-texels reduce faces w h l m e k (omega arith) ∙ due-at reduce faces w h l m k)
 
     next-follows : (m : ℕ) → standing faces w h l (suc m) ≡ next reduce faces (side_at m w) (side_at m h) (standing faces w h l m)
-        → level_verdict reduce faces w h l (suc m) ≡ Follows
+        → level_verdict reduce faces w h l (suc m) ≡ None
     next-follows m e =
         texels-level reduce faces w h l m λ k lt.
         sym (get_or-standing (suc m) k lt) ∙ ap (λ (s : List ℕ). get_or s k 0) e ∙ sym (due-at reduce faces w h l m k)
 
     -- every level as it stands is that level of the level 0 that stands there
     module _ (pw : 0 < w) (ph : 0 < h) where
-      pub follows-levels : (n : ℕ) → start faces w h n ≤ length l → levels_verdict reduce faces w h l n ≡ Follows
+      pub follows-levels : (n : ℕ) → start faces w h n ≤ length l → levels_verdict reduce faces w h l n ≡ None
           → (m : ℕ) → m < n → standing faces w h l m ≡ level reduce faces m w h (standing faces w h l 0)
       unfolding level
       follows-levels n room e zero lt = refl
@@ -66,7 +66,7 @@ module _ (reduce : ℕ → ℕ → ℕ → ℕ → ℕ) (faces : ℕ) where
           ∙ ap (next reduce faces (side_at m w) (side_at m h)) (follows-levels n room e m (omega arith))
           ∙ sym (level-next m w h (standing faces w h l 0) pw ph)
 
-      level-follows : (n m : ℕ) → ((j : ℕ) → j < n → standing faces w h l j ≡ level reduce faces j w h (standing faces w h l 0)) → m < n → level_verdict reduce faces w h l m ≡ Follows
+      level-follows : (n m : ℕ) → ((j : ℕ) → j < n → standing faces w h l j ≡ level reduce faces j w h (standing faces w h l 0)) → m < n → level_verdict reduce faces w h l m ≡ None
       unfolding level_verdict
       level-follows n zero all lt = refl
       level-follows n (suc m) all lt =
@@ -100,10 +100,10 @@ module _ (reduce : ℕ → ℕ → ℕ → ℕ → ℕ) (faces : ℕ) where
           ∙ chain-level reduce faces m b w h (standing faces w h l 0) pw ph (length-standing 0 (omega arith) ∙ size-zero faces w h pw ph)
 
       -- THE VERDICT. A chain follows exactly if it is the chain of its level 0
-      pub follows-chain : (n : ℕ) → start faces w h n ≤ length l → levels_verdict reduce faces w h l n ≡ Follows
+      pub follows-chain : (n : ℕ) → start faces w h n ≤ length l → levels_verdict reduce faces w h l n ≡ None
           → take (start faces w h n) l ≡ chain reduce faces n w h (standing faces w h l 0)
       follows-chain n room e = stacked n (follows-levels n room e)
 
       pub chain-follows : (n : ℕ) → start faces w h n ≤ length l → take (start faces w h n) l ≡ chain reduce faces n w h (standing faces w h l 0)
-          → levels_verdict reduce faces w h l n ≡ Follows
+          → levels_verdict reduce faces w h l n ≡ None
       chain-follows n room e = levels-none reduce faces w h l n (λ m lt. level-follows n m (unstacked n room e) lt)

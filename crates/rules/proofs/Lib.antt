@@ -3,6 +3,8 @@ pub mod Examples
 pub mod Grid
 pub mod Sides
 pub mod Refusing
+pub mod Answering
+pub mod Numbers
 pub mod Truncating
 pub mod RefusingCuts
 pub mod RefusingLookups

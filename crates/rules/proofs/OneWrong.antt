@@ -1,5 +1,6 @@
 -- One texel of a chain that follows is changed, in level m. A texel is due by the level before it alone: so no level but m and m + 1 is
 -- touched, in level m that texel alone is wrong, and in level m + 1 at most the one that is made from it. Assumes nothing.
+use Rattle.std.specs.Prelude.{None, Some}
 use mathlib.Core.Path.{◌≡◌, refl, sym, ap, ◌∙◌}
 use mathlib.Core.Logic.{◌⊎◌, inl, inr, ⊎_elim}
 use mathlib.Core.List.{List}
@@ -9,7 +10,6 @@ use native.Mathlib.Decide.{dec_le, ℕ_discrete}
 use native.Mathlib.Omega.{arith}
 use lib.ListN.{length, get_or, take, drop, set}
 use lib.Seq.{take-set-le, take-set-lt, drop-set-lt, drop-set-add, get_or-set_same, get_or-set_other}
-use Rattle.rules.specs.declared.Verdict.TheVariants.{Follows, WrongAt}
 use Rattle.rules.specs.Sizes.{side_at, half, size_at, start}
 use Rattle.rules.specs.Levels.{grid, texel, quad, next}
 use Rattle.rules.specs.Checks.{standing, due, level_verdict, levels_verdict, Wrong, child}
@@ -105,7 +105,7 @@ module _ (reduce : ℕ → ℕ → ℕ → ℕ → ℕ) (faces w h : ℕ) (l : L
 
 -- a chain of n levels above level 0 that follows, and a texel of it, in level m at place p, that is not t
 module _ (reduce : ℕ → ℕ → ℕ → ℕ → ℕ) (faces w h : ℕ) (l : List ℕ) (n m p t : ℕ)
-    (follows : levels_verdict reduce faces w h l (suc n) ≡ Follows) (room : start faces w h (suc n) ≤ length l) (level : m ≤ n)
+    (follows : levels_verdict reduce faces w h l (suc n) ≡ None) (room : start faces w h (suc n) ≤ length l) (level : m ≤ n)
     (from : start faces w h m ≤ p) (before : p < start faces w h (suc m)) (other : t ≡ get_or l p 0 → ⊥) where
   -- every texel above level 0 was the one that is due
   was-due : (j i : ℕ) → j < n → start faces w h (suc j) ≤ i → i < start faces w h (suc (suc j)) → get_or l i 0 ≡ due reduce faces w h l j i
@@ -145,7 +145,7 @@ module _ (reduce : ℕ → ℕ → ℕ → ℕ → ℕ) (faces w h : ℕ) (l : L
       ]
 
   -- levels but m and m + 1 follow as they did
-  pub others-follow : (j : ℕ) → j ≤ n → (j ≡ m → ⊥) → (j ≡ suc m → ⊥) → level_verdict reduce faces w h (set l p t) j ≡ Follows
+  pub others-follow : (j : ℕ) → j ≤ n → (j ≡ m → ⊥) → (j ≡ suc m → ⊥) → level_verdict reduce faces w h (set l p t) j ≡ None
   unfolding level_verdict
   others-follow zero le a b = refl
   others-follow (suc j) le a b =
@@ -156,7 +156,7 @@ module _ (reduce : ℕ → ℕ → ℕ → ℕ → ℕ) (faces w h : ℕ) (l : L
       (wrong-where j i (omega arith) x)
 
   -- above level 0 the verdict is exactly that place
-  pub one-wrong : (k : ℕ) → m ≡ suc k → levels_verdict reduce faces w h (set l p t) (suc n) ≡ WrongAt p
+  pub one-wrong : (k : ℕ) → m ≡ suc k → levels_verdict reduce faces w h (set l p t) (suc n) ≡ Some p
   one-wrong k e =
       let at : start faces w h (suc k) ≤ p = rw e at from in
       let end : p < start faces w h (suc (suc k)) = rw e at before in
@@ -180,7 +180,7 @@ module _ (reduce : ℕ → ℕ → ℕ → ℕ → ℕ) (faces w h : ℕ) (l : L
 
   -- in level 0 it is yes, or the place of the one texel of level 1 that is made from it
   pub one-wrong-below : m ≡ 0
-      → (levels_verdict reduce faces w h (set l p t) (suc n) ≡ Follows) ⊎ (levels_verdict reduce faces w h (set l p t) (suc n) ≡ WrongAt (child faces w h 0 p))
+      → (levels_verdict reduce faces w h (set l p t) (suc n) ≡ None) ⊎ (levels_verdict reduce faces w h (set l p t) (suc n) ≡ Some (child faces w h 0 p))
   one-wrong-below e =
       ⊎_elim
       (λ yes. inl yes)
@@ -192,6 +192,6 @@ module _ (reduce : ℕ → ℕ → ℕ → ℕ → ℕ) (faces w h : ℕ) (l : L
       let f = x.from in
       let g = start-mono faces w h (suc m) (suc s.level) (omega arith) in
       absurd (omega arith))
-      (λ z. inr (some.1 ∙ ap WrongAt (z.1 ∙ rw e)))
+      (λ z. inr (some.1 ∙ ap Some (z.1 ∙ rw e)))
       (wrong-where s.level some.0 s.below x))
       (verdict-of (levels_verdict reduce faces w h (set l p t) (suc n)))

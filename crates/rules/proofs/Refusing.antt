@@ -1,7 +1,8 @@
 -- What a refusal number says: 0 exactly when the facts that the call needs hold, and else the first number that is given.
 -- For a part X of the arguments: `X-taken`, its number is 0 where the facts hold; `X-facts`, they hold where it is 0;
 -- `X-refused`, its number where they do not. Assumes nothing.
-use mathlib.Core.Path.{◌≡◌, refl, sym, ap, ◌∙◌}
+use Rattle.rules.specs.Answers.{refused}
+use mathlib.Core.Path.{◌≡◌, refl, sym, ◌∙◌}
 use mathlib.Core.Bool.{Bool, true, false, not, ◌&&◌, false≢true}
 use mathlib.Core.List.{List}
 use mathlib.Core.Logic.{◌⊎◌, inl, inr, ⊎_elim}
@@ -9,13 +10,10 @@ use Prim.Native.Nat.{ℕ, zero, suc, ◌≤◌, ◌<◌, suc-le-suc}
 use native.Mathlib.Omega.{arith}
 use borrow.Author.Tests.{leb-true, eqb-true, eqb-false, not-true, le-leb, lt-leb, eq-eqb, ne_eqb}
 use lib.Dec.{leb, eqb}
-use Rattle.rules.specs.declared.Packing.{Packing}
-use Rattle.rules.specs.declared.PackingCode.{PackingCode}
-use Rattle.rules.specs.declared.PackingCode.TheVariants.{By, Refused}
 use Rattle.rules.specs.Kinds.{cubemap, faces_of}
 use Rattle.rules.specs.Sizes.{top, count}
 use Rattle.rules.specs.Pictures.{Picture}
-use Rattle.rules.specs.Packing.{packing_code, packing_of}
+use Rattle.rules.specs.Packing.{packing_code}
 use Rattle.rules.specs.Refusals.{◌or_else◌, unless, kind_refusal, side_taken, sides_refusal, buffer_refusal, level_refusal, no_cubemap_refusal, only_cubemap_refusal, face_refusal, mode_refusal, picture_refusal, chain_refusal, mipmaps_refusal, level_sizes_refusal, view_refusal}
 use Rattle.rules.specs.Answers.{answer, leaves}
 
@@ -233,21 +231,6 @@ pub mode-facts : (mode : ℕ) → mode_refusal mode ≡ 0 → mode ≤ 1
 mode-facts zero e = omega arith
 mode-facts (suc zero) e = omega arith
 mode-facts (suc (suc mode)) e = absurd (omega (arith, mode-refused (suc (suc mode)) (omega arith)))
-
--- what a code stands for: a mode, or 15
-pub code_by : (mode : ℕ) (packing : Packing) → By packing ≡ packing_code mode → (mode_refusal mode ≡ 0) × (packing ≡ packing_of mode)
-unfolding mode_refusal
-code_by mode packing e = rw (← e) (refl, refl)
-
-abbrev known-code : PackingCode → Bool
-known-code (By packing) = true
-known-code (Refused n) = false
-
-pub code-refused : (mode n : ℕ) → Refused n ≡ packing_code mode → (n ≡ mode_refusal mode) × (n ≡ 0 → ⊥)
-unfolding packing_code mode_refusal
-code-refused zero n e = absurd (false≢true (ap known-code e))
-code-refused (suc zero) n e = absurd (false≢true (ap known-code e))
-code-refused (suc (suc mode)) n e = let r = mode-refused (suc (suc mode)) (omega arith) in let g : n ≡ mode_refusal (suc (suc mode)) = rw (← e) refl in (g, λ z. omega arith)
 
 -- ---- 1, 2: a picture
 

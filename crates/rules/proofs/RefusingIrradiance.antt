@@ -1,14 +1,14 @@
 -- What the refusal number of irradiance_sh4 says: 0 exactly when the facts hold, and else the first number that is given. Assumes nothing.
+use Rattle.std.specs.Prelude.{Ok}
+use Rattle.rules.specs.Answers.{refused}
 use mathlib.Core.Path.{◌≡◌, sym, ap, ◌∙◌}
 use mathlib.Core.List.{List}
 use Prim.Native.Nat.{ℕ, ◌*◌, ◌≤◌, ◌<◌}
 use native.Mathlib.Nat.{mul_assoc, one-mul}
 use native.Mathlib.Omega.{arith}
 use lib.ListN.{length}
-use Rattle.rules.specs.declared.Sh4.{Sh4}
-use Rattle.rules.specs.declared.Irradiance.TheVariants.{Of as OfLight, Refused as NoLight}
 use Rattle.rules.specs.Kinds.{cubemap, faces_of}
-use Rattle.rules.specs.Irradiance.{irradiance_of}
+use Rattle.rules.specs.Irradiance.{Sh4, irradiance_of}
 use Rattle.rules.specs.Refusals.{buffer_refusal, only_cubemap_refusal, picture_refusal, irradiance_refusal}
 use Rattle.rules.specs.Answers.{irradiance_answer}
 use Rattle.rules.proofs.Refusing.{Sides, sides-of, picture-facts, answer-given, answer-refused, or_else-zero, or_else-given, or_else-none, buffer-taken, buffer_facts, buffer-refused, cube-facts}
@@ -55,10 +55,10 @@ module _ (kind w h n : ℕ) where
 
 -- the answer: the number where the call refuses, and else the coefficients
 module _ (kind w h : ℕ) (l : List ℕ) where
-  pub light-stops : (n : ℕ) → n ≡ irradiance_refusal kind w h (length l) → (n ≡ 0 → ⊥) → NoLight n ≡ irradiance_answer kind w h l
+  pub light-stops : (n : ℕ) → n ≡ irradiance_refusal kind w h (length l) → (n ≡ 0 → ⊥) → refused n ≡ irradiance_answer kind w h l
   unfolding irradiance_answer
-  light-stops n e some = ap NoLight e ∙ sym (answer-refused _ _ _ (λ z. some (e ∙ z)))
+  light-stops n e some = ap refused e ∙ sym (answer-refused _ _ _ (λ z. some (e ∙ z)))
 
-  pub light-goes : (s : Sh4) → irradiance_refusal kind w h (length l) ≡ 0 → s ≡ irradiance_of w h l → OfLight s ≡ irradiance_answer kind w h l
+  pub light-goes : (s : Sh4) → irradiance_refusal kind w h (length l) ≡ 0 → s ≡ irradiance_of w h l → Ok s ≡ irradiance_answer kind w h l
   unfolding irradiance_answer
-  light-goes s none e = ap OfLight e ∙ sym (answer-given _ _ _ none)
+  light-goes s none e = ap Ok e ∙ sym (answer-given _ _ _ none)

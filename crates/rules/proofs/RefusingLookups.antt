@@ -1,26 +1,25 @@
 -- What the refusal numbers of the lookups say: 0 exactly when each of their parts is, and a part that looks at four lanes
 -- exactly when every lane is taken: one bad lane refuses all four. Assumes nothing.
+use Rattle.std.specs.Prelude.{Result, Ok, Err}
 use mathlib.Core.Path.{◌≡◌, refl}
-use mathlib.Core.Bool.{Bool, true, false, cond, ◌&&◌}
+use mathlib.Core.Bool.{Bool, true, ◌&&◌}
 use Prim.Native.Nat.{ℕ, ◌≤◌, ◌<◌}
 use borrow.Author.Tests.{ltb-true, lt-ltb}
-use native.Mathlib.Omega.{arith}
-use lib.Dec.{eqb}
 use lib.Ieee.{Float}
 use lib.Ieee.Scale.{finite}
-use Rattle.rules.specs.declared.Lanes.{Lanes}
-use Rattle.rules.specs.declared.Wholes.{Wholes}
-use Rattle.rules.specs.declared.Directions.{Directions}
+use Rattle.rules.specs.Lanes.{Lanes}
+use Rattle.rules.specs.Lanes.{Wholes}
+use Rattle.rules.specs.Lanes.{Directions}
 use Rattle.rules.specs.declared.Sampler.{Sampler}
-use Rattle.rules.specs.declared.Wrap.{Wrap}
-use Rattle.rules.specs.declared.Wrap.TheVariants.{By, Refused}
-use Rattle.rules.specs.declared.Mode.TheVariants.{Repeat, Clamp, Mirror}
-use Rattle.rules.specs.Wrapping.{not_given, wrap_code, mode_in, mode_of}
+use Rattle.rules.specs.Wrapping.{wrap_code, mode_in, mode_of}
 use Rattle.rules.specs.Kinds.{cubemap, faces_of}
 use Rattle.rules.specs.Sizes.{top}
-use Rattle.rules.specs.Lanes.{in_lanes, in_wholes, in_directions}
+use Rattle.rules.specs.Lanes.{in_lanes, in_lanes, in_directions}
 use Rattle.rules.specs.Faces.{direction_taken}
-use Rattle.rules.specs.Refusals.{◌or_else◌, sides_refusal, wrap_refusal, sampler_refusal, coordinate_taken, coordinates_refusal, finite_refusal, level_refusal, directions_refusal, no_cubemap_refusal, only_cubemap_refusal, face_taken, faces_refusal, chain_refusal, mip_level_refusal, sample4_refusal, bilinear_rgb_refusal, bilinear_alpha_refusal, cubemap_refusal, trilinear_refusal}
+use Rattle.rules.specs.declared.Refusal.{Refusal}
+use Rattle.rules.specs.declared.Mode.{Mode}
+use Rattle.rules.proofs.Answering.{number-some}
+use Rattle.rules.specs.Refusals.{number_in, ◌or_else◌, sides_refusal, wrap_refusal, sampler_refusal, coordinate_taken, coordinates_refusal, finite_refusal, level_refusal, directions_refusal, no_cubemap_refusal, only_cubemap_refusal, face_taken, faces_refusal, chain_refusal, mip_level_refusal, sample4_refusal, bilinear_rgb_refusal, bilinear_alpha_refusal, cubemap_refusal, trilinear_refusal}
 use Rattle.rules.proofs.Refusing.{or_else-none, or_else-taken, unless-true, unless-false, unless-none, and-true, and_both, test-false, Sides, sides-taken, sides-facts, level-taken, level-facts, flat-taken, flat-facts, cube-taken, cube-facts, Chained, chain-taken, chain-facts}
 
 -- ---- four lanes
@@ -63,25 +62,19 @@ lanes-fact test l e = four-fact _ _ _ _ e
 -- ---- 4: wrap code unknown
 
 -- a code that is not refused stands for its mode
-pub code-known : (code : ℕ) → wrap_refusal (wrap_code code) ≡ 0 → wrap_code code ≡ By (mode_of code)
-unfolding wrap_code
-code-known code = by (eqb code 10497) (eqb code 33071) (eqb code 33648) (eqb code 0)
+pub code-known : (code : ℕ) → wrap_refusal code ≡ 0 → wrap_code code ≡ Ok (mode_of code)
+unfolding wrap_refusal
+code-known code = by (wrap_code code)
   where
-    pick : Bool → Bool → Bool → Bool → Wrap
-    pick p q r s = cond p (By Repeat) (cond q (By Clamp) (cond r (By Mirror) (cond s (By not_given) (Refused 4))))
+    by : (found : Result Mode Refusal) → number_in found ≡ 0 → found ≡ Ok (mode_in found)
+    by (Ok mode) e = refl
+    by (Err refusal) e = absurd (number-some refusal e)
 
-    by : (p q r s : Bool) → wrap_refusal (pick p q r s) ≡ 0 → pick p q r s ≡ By (mode_in (pick p q r s))
-    by true q r s e = refl
-    by false true r s e = refl
-    by false false true s e = refl
-    by false false false true e = refl
-    by false false false false e = absurd (omega arith)
-
-pub codes-taken : (s : Sampler) → wrap_refusal (wrap_code s.wrap_s) ≡ 0 → wrap_refusal (wrap_code s.wrap_t) ≡ 0 → sampler_refusal s ≡ 0
+pub codes-taken : (s : Sampler) → wrap_refusal s.wrap_s ≡ 0 → wrap_refusal s.wrap_t ≡ 0 → sampler_refusal s ≡ 0
 unfolding sampler_refusal
 codes-taken s p q = or_else-taken _ _ p q
 
-pub codes-facts : (s : Sampler) → sampler_refusal s ≡ 0 → (wrap_refusal (wrap_code s.wrap_s) ≡ 0) × (wrap_refusal (wrap_code s.wrap_t) ≡ 0)
+pub codes-facts : (s : Sampler) → sampler_refusal s ≡ 0 → (wrap_refusal s.wrap_s ≡ 0) × (wrap_refusal s.wrap_t ≡ 0)
 unfolding sampler_refusal
 codes-facts s e = or_else-none _ _ e
 
@@ -137,15 +130,15 @@ directions-refused n fails = unless-false _ 7 (test-false _ (λ t. fails (four-f
 -- ---- 8: face above 5 for a cubemap, or not 0 for another kind
 
 pub faces-taken : (kind : ℕ) (f : Wholes) → EachWhole (face_taken kind) f → faces_refusal kind f ≡ 0
-unfolding faces_refusal in_wholes
+unfolding faces_refusal in_lanes
 faces-taken kind f each = unless-true _ 8 (four-test _ _ _ _ each)
 
 pub faces-facts : (kind : ℕ) (f : Wholes) → faces_refusal kind f ≡ 0 → EachWhole (face_taken kind) f
-unfolding faces_refusal in_wholes
+unfolding faces_refusal in_lanes
 faces-facts kind f e = four-fact _ _ _ _ (unless-none _ 7 e)
 
 pub faces-refused : (kind : ℕ) (f : Wholes) → (EachWhole (face_taken kind) f → ⊥) → faces_refusal kind f ≡ 8
-unfolding faces_refusal in_wholes
+unfolding faces_refusal in_lanes
 faces-refused kind f fails = unless-false _ 8 (test-false _ (λ t. fails (four-fact _ _ _ _ t)))
 
 -- the same lane by lane, as numbers

@@ -1,5 +1,8 @@
 -- What the refusal numbers of the two calls on ranges say: 0 exactly when the facts hold, and else the first number that is given.
 -- Assumes nothing.
+use Rattle.std.specs.Prelude.{Ok}
+use Rattle.rules.specs.Answers.{refused, told}
+use Rattle.rules.proofs.Answering.{first}
 use mathlib.Core.Path.{◌≡◌, sym, ap, ◌∙◌}
 use mathlib.Core.Bool.{true, ◌&&◌}
 use mathlib.Core.Logic.{⊎_elim}
@@ -10,8 +13,6 @@ use borrow.Author.Tests.{ltb-true, lt-ltb}
 use lib.Dec.{ltb}
 use lib.ListN.{length, drop, set}
 use lib.Seq.{sets}
-use Rattle.rules.specs.declared.Sizes.TheVariants.{Level, Refused as NoSizes}
-use Rattle.rules.specs.declared.Written.TheVariants.{Bytes, Refused as NoBytes}
 use Rattle.rules.specs.Kinds.{cubemap, faces_of}
 use Rattle.rules.specs.Sizes.{side_at, start, count}
 use Rattle.rules.specs.Ranges.{tile, range_of, ranges_of, ranges_size, range_start, replaced, range_replaced}
@@ -44,28 +45,23 @@ module _ (w h x y : ℕ) where
 -- ---- 1, 2, as level_sizes gives them: every picture has a level 0
 
 module _ (kind w h : ℕ) where
-  sizes-given : picture_refusal kind w h ≡ 0 → level_sizes_answer kind w h 0 ≡ Level (start (faces_of kind) w h 0) (side_at 0 w) (side_at 0 h) (count (faces_of kind) w h)
+  sizes-given : picture_refusal kind w h ≡ 0
+      → level_sizes_answer kind w h 0 ≡ Ok record { start = start (faces_of kind) w h 0; width = side_at 0 w; height = side_at 0 h; total = count (faces_of kind) w h }
   unfolding level_sizes_answer
   sizes-given e = answer-given _ _ _ (sizes-taken kind w h 0 (record { taken = picture-facts kind w h e; below = omega arith }))
 
-  sizes-refused : (picture_refusal kind w h ≡ 0 → ⊥) → level_sizes_answer kind w h 0 ≡ NoSizes (picture_refusal kind w h)
+  sizes-refused : (picture_refusal kind w h ≡ 0 → ⊥) → level_sizes_answer kind w h 0 ≡ refused (picture_refusal kind w h)
   unfolding level_sizes_answer
   sizes-refused some =
       let same = sizes-picture kind w h 0 some in
-      answer-refused _ _ _ (λ z. some (sym same ∙ z)) ∙ ap NoSizes same
+      answer-refused _ _ _ (λ z. some (sym same ∙ z)) ∙ ap refused same
 
-  pub level0-refused : (n : ℕ) → level_sizes_answer kind w h 0 ≡ NoSizes n → (picture_refusal kind w h ≡ n) × (picture_refusal kind w h ≡ 0 → ⊥)
-  level0-refused n e =
+  -- level_sizes tells of level 0 what the picture's own number does
+  pub level0_told : told (picture_refusal kind w h) ≡ first (level_sizes_answer kind w h 0) (Ok tt)
+  level0_told =
       ⊎_elim
-      (λ none. let given = sizes-given none in let no : ◌≡◌ {A = ℕ} 0 1 = cc in absurd (omega arith))
-      (λ some. let refused = sizes-refused some in let number : picture_refusal kind w h ≡ n = cc in (number, some))
-      (none_or_some (picture_refusal kind w h))
-
-  pub level0-given : (s a b t : ℕ) → level_sizes_answer kind w h 0 ≡ Level s a b t → picture_refusal kind w h ≡ 0
-  level0-given s a b t e =
-      ⊎_elim
-      (λ none. none)
-      (λ some. let refused = sizes-refused some in let no : ◌≡◌ {A = ℕ} 0 1 = cc in absurd (omega arith))
+      (λ none. rw (sizes-given none) (answer-given _ refused _ none))
+      (λ some. rw (sizes-refused some) (answer-refused _ refused _ some))
       (none_or_some (picture_refusal kind w h))
 
 -- ---- 1, 2, 3 (level 0), 3 (the ranges), 8
@@ -162,7 +158,7 @@ passed e none = sym e ∙ none
 
 module _ (kind w h : ℕ) (l ranges : List ℕ) where
   pub build-stops : {r : ℕ} → r ≡ ranges_refusal kind w h (length l) (length ranges) → (r ≡ 0 → ⊥)
-      → (NoBytes r ≡ ranges_answer kind w h l ranges) × (ranges ≡ ranges_leaves kind w h l ranges)
+      → (refused r ≡ ranges_answer kind w h l ranges) × (ranges ≡ ranges_leaves kind w h l ranges)
   unfolding ranges_answer ranges_leaves
   build-stops e some =
       let other : ranges_refusal kind w h (length l) (length ranges) ≡ 0 → ⊥ = λ none. some (e ∙ none) in
@@ -170,9 +166,9 @@ module _ (kind w h : ℕ) (l ranges : List ℕ) where
 
   pub build-goes : {n : ℕ} {t : List ℕ} → ranges_refusal kind w h (length l) (length ranges) ≡ 0 → n ≡ ranges_size w h
       → t ≡ ranges_of w h l ++ drop (ranges_size w h) ranges
-      → (Bytes n ≡ ranges_answer kind w h l ranges) × (t ≡ ranges_leaves kind w h l ranges)
+      → (Ok n ≡ ranges_answer kind w h l ranges) × (t ≡ ranges_leaves kind w h l ranges)
   unfolding ranges_answer ranges_leaves
-  build-goes none en et = (ap Bytes en ∙ sym (answer-given _ _ _ none), et ∙ sym (answer-given _ _ _ none))
+  build-goes none en et = (ap Ok en ∙ sym (answer-given _ _ _ none), et ∙ sym (answer-given _ _ _ none))
 
   module _ (x y t : ℕ) where
     pub replace-stops : {r : ℕ} → r ≡ replace_refusal kind w h (length l) (length ranges) x y → (r ≡ 0 → ⊥)

@@ -1,12 +1,13 @@
 -- Truncating is what stood before there were packing modes. The pack is the f32 product's whole part; and the chain call with code 0 is
 -- refused, answers and leaves as it did, since 15 is never given there. Assumes nothing.
+use Rattle.std.specs.Prelude.{Ok}
+use Rattle.rules.specs.Answers.{refused}
 use mathlib.Core.Path.{◌≡◌, refl}
 use mathlib.Core.List.{List}
 use Prim.Native.Nat.{ℕ}
 use lib.ListN.{length}
 use lib.Ieee.{Float, binary32, mul, to_unsigned}
 use Rattle.rules.specs.declared.Packing.TheVariants.{Truncating}
-use Rattle.rules.specs.declared.Filled.TheVariants.{Texels, Refused}
 use Rattle.rules.specs.Kinds.{faces_of}
 use Rattle.rules.specs.Sizes.{count}
 use Rattle.rules.specs.Floats.{top32}
@@ -26,7 +27,7 @@ module _ (kind w h : ℕ) (l : List ℕ) where
   unfolding mipmaps_refusal mode_refusal packing_code
   refusal-0 = or_else-last (chain_refusal kind w h (length l))
 
-  pub answer-0 : chain_answer kind w h 0 l ≡ answer (chain_refusal kind w h (length l)) Refused (Texels (count (faces_of kind) w h))
+  pub answer-0 : chain_answer kind w h 0 l ≡ answer (chain_refusal kind w h (length l)) refused (Ok (count (faces_of kind) w h))
   unfolding chain_answer
   answer-0 = rw refusal-0
 

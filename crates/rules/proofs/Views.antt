@@ -1,5 +1,6 @@
 -- What the chain call leaves and what the level view hands out of it, over what their contracts say (specs/Answers), for every
 -- input that is not refused: 01's chain in front of what was found, and the faces of a level in their order. Assumes nothing.
+use Rattle.std.specs.Prelude.{Ok}
 use mathlib.Core.Path.{◌≡◌, sym, ◌∙◌}
 use mathlib.Core.List.{List, [], ◌++◌}
 use Prim.Native.Nat.{ℕ, zero, suc, ◌+◌, ◌*◌, ◌≤◌, ◌<◌}
@@ -7,7 +8,6 @@ use native.Mathlib.Nat.{mul_assoc, zero-mul, le_refl}
 use native.Mathlib.Omega.{arith}
 use lib.ListN.{length, take, drop, length-append, length-drop}
 use lib.Seq.{take_at, drop-drop, take-add, take-append-le, drop-append-le, length-take-le}
-use Rattle.rules.specs.declared.Filled.TheVariants.{Texels}
 use Rattle.rules.specs.Kinds.{cubemap, faces_of}
 use Rattle.rules.specs.Sizes.{side_at, top, size_at, start, count}
 use Rattle.rules.specs.View.{face_start, face_view}
@@ -57,7 +57,7 @@ module _ (kind w h mode : ℕ) (buffer : List ℕ) (c : Mipmapped kind w h mode 
   unfolding chain_leaves filled_of filled chain_of count
   chain_left = answer-given _ _ _ (mipmaps-taken kind w h mode (length buffer) c)
 
-  pub chain-answered : chain_answer kind w h mode buffer ≡ Texels (count (faces_of kind) w h)
+  pub chain-answered : chain_answer kind w h mode buffer ≡ Ok (count (faces_of kind) w h)
   unfolding chain_answer
   chain-answered = answer-given _ _ _ (mipmaps-taken kind w h mode (length buffer) c)
 

@@ -2,7 +2,7 @@
 use Rattle.std.specs.Prelude.{cond, ℕ, zero, suc, ◌^◌, Float}
 use Rattle.std.specs.Float.{binary32}
 use Rattle.std.specs.Float.Ieee.{add, mul, le}
-use Rattle.rules.specs.declared.Lanes.{Lanes}
+use Rattle.rules.specs.Lanes.{Lanes}
 use Rattle.rules.specs.Floats.{half32, float, square_of}
 use Rattle.rules.specs.Sizes.{top}
 

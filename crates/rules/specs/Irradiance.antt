@@ -6,7 +6,6 @@ use Rattle.std.specs.Float.Ieee.{neg, add, sub, mul, div, of_bits}
 use Rattle.rules.specs.declared.Rgb.{Rgb}
 use Rattle.rules.specs.declared.Vector.{Vector}
 use Rattle.rules.specs.declared.Basis.{Basis}
-use Rattle.rules.specs.declared.Sh4.{Sh4}
 use Rattle.rules.specs.Kinds.{red_of, green_of, blue_of}
 use Rattle.rules.specs.Levels.{texel}
 use Rattle.rules.specs.Floats.{zero32, half32, one32, minus1, two32, float, square_of}
@@ -42,11 +41,11 @@ distance_of u v = add binary32 (add binary32 one32 (square_of u)) (square_of v)
 unfoldable pub weight_of : Float → Float → Float
 weight_of omega d = div binary32 omega (mul binary32 d (sqrt_of d))
 
-abbrev pub vector_of : Float → Float → Float → Vector
+abbrev pub vector_of : Float → Float → Float → Vector Float
 vector_of x y z = record { x = x; y = y; z = z }
 
 -- cubemap_face_uv_to_direction, before it is divided, for the faces +X -X +Y -Y +Z -Z
-unfoldable pub towards : ℕ → Float → Float → Vector
+unfoldable pub towards : ℕ → Float → Float → Vector Float
 towards f u v =
     cond (eqb f 0) (vector_of one32 (neg v) (neg u))
     (cond (eqb f 1) (vector_of minus1 (neg v) u)
@@ -55,11 +54,11 @@ towards f u v =
     (cond (eqb f 4) (vector_of u (neg v) one32) (vector_of (neg u) (neg v) minus1)))))
 
 -- a direction is divided by the root
-unfoldable pub divided_by : Float → Vector → Vector
+unfoldable pub divided_by : Float → Vector Float → Vector Float
 divided_by r n = vector_of (div binary32 n.x r) (div binary32 n.y r) (div binary32 n.z r)
 
 -- basis 0.282095, 0.488603 * y, 0.488603 * z, 0.488603 * x, each times the weight
-unfoldable pub basis_of : Vector → Float → Basis
+unfoldable pub basis_of : Vector Float → Float → Basis Float
 basis_of n weight =
     record {
       constant = mul binary32 basis0 weight;
@@ -69,10 +68,14 @@ basis_of n weight =
     }
 
 -- the basis at the place (u, v) of face f
-unfoldable pub place_basis : Float → ℕ → Float → Float → Basis
+unfoldable pub place_basis : Float → ℕ → Float → Float → Basis Float
 place_basis omega f u v =
     let d = distance_of u v in
     basis_of (divided_by (sqrt_of d) (towards f u v)) (weight_of omega d)
+
+-- a colour for each of the four
+abbrev pub Sh4 : Type 0
+Sh4 = Basis Rgb
 
 -- each texel is decoded through T directly
 unfoldable pub decoded_of : ℕ → Rgb
@@ -88,7 +91,7 @@ gets s c k =
     }
 
 -- all four, each by its basis
-unfoldable pub all_get : Rgb → Basis → Sh4 → Sh4
+unfoldable pub all_get : Rgb → Basis Float → Sh4 → Sh4
 all_get c k s =
     record {
       constant = gets s.constant c k.constant;

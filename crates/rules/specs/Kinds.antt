@@ -1,5 +1,7 @@
 -- Kinds, and the four bytes of a texel. Definitions only.
 use Rattle.std.specs.Prelude.{cond, ℕ, ◌+◌, ◌*◌, ◌/◌, ◌%◌, eqb}
+use Rattle.rules.specs.declared.Kind.{Kind}
+use Rattle.rules.specs.declared.Kind.TheVariants.{Srgb, Normal, MetallicRoughness, Cubemap, Linear}
 
 -- kind codes: 0 SRGB, 1 Normal, 2 MetallicRoughness, 3 Cubemap, 4 Linear
 abbrev pub srgb : ℕ
@@ -16,6 +18,21 @@ cubemap = 3
 
 abbrev pub linear : ℕ
 linear = 4
+
+abbrev pub code_of : Kind → ℕ
+code_of Srgb = srgb
+code_of Normal = normal
+code_of MetallicRoughness = metallic_roughness
+code_of Cubemap = cubemap
+code_of Linear = linear
+
+-- the kind of a code that is known
+unfoldable pub kind_of : ℕ → Kind
+kind_of code =
+    cond (eqb code srgb) Srgb
+    (cond (eqb code normal) Normal
+    (cond (eqb code metallic_roughness) MetallicRoughness
+    (cond (eqb code cubemap) Cubemap Linear)))
 
 -- six faces for a cubemap, one for every other kind
 unfoldable pub faces_of : ℕ → ℕ

@@ -1,19 +1,24 @@
--- The four lanes travel together as one record of four numbers. Definitions only.
+-- The four lanes travel together as one record of four numbers; three of these are four directions, or four colours. Definitions only.
 use Rattle.std.specs.Prelude.{Bool, ◌&&◌, ℕ, Float}
-use Rattle.rules.specs.declared.Lanes.{Lanes}
-use Rattle.rules.specs.declared.Wholes.{Wholes}
-use Rattle.rules.specs.declared.Directions.{Directions}
+use Rattle.rules.specs.declared.Four.{Four}
+use Rattle.rules.specs.declared.Vector.{Vector}
 use Rattle.rules.specs.declared.Rgb.{Rgb}
+
+abbrev pub Lanes : Type 0
+Lanes = Four Float
+
+abbrev pub Wholes : Type 0
+Wholes = Four ℕ
+
+abbrev pub Directions : Type 0
+Directions = Vector Lanes
 
 abbrev pub lanes_of : Float → Float → Float → Float → Lanes
 lanes_of a b c d = record { a = a; b = b; c = c; d = d }
 
 -- a test that holds in every lane
-unfoldable pub in_lanes : (Float → Bool) → Lanes → Bool
+unfoldable pub in_lanes : {A : Type 0} → (A → Bool) → Four A → Bool
 in_lanes test l = test l.a && (test l.b && (test l.c && test l.d))
-
-unfoldable pub in_wholes : (ℕ → Bool) → Wholes → Bool
-in_wholes test l = test l.a && (test l.b && (test l.c && test l.d))
 
 unfoldable pub in_directions : (Float → Float → Float → Bool) → Directions → Bool
 in_directions test n =

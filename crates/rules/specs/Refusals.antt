@@ -1,24 +1,19 @@
 -- The refusal numbers, and for each call those that fit its arguments, in their order. 0 is no refusal. Definitions only.
-use Rattle.std.specs.Prelude.{Bool, false, not, cond, ◌&&◌, ℕ, ◌*◌, leb, ltb, eqb, pos, Float}
+use Rattle.std.specs.Prelude.{Bool, false, not, cond, ◌&&◌, ℕ, ◌*◌, leb, ltb, eqb, pos, Float, Result, Ok, Err}
 use Rattle.std.specs.Float.{fin}
 use Rattle.std.specs.Float.Ieee.{lt}
 use Rattle.std.specs.Float.Ieee.Scale.{finite}
-use Rattle.rules.specs.declared.Lanes.{Lanes}
-use Rattle.rules.specs.declared.Wholes.{Wholes}
-use Rattle.rules.specs.declared.Directions.{Directions}
 use Rattle.rules.specs.declared.Sampler.{Sampler}
 use Rattle.rules.specs.declared.Pair.{Pair}
-use Rattle.rules.specs.declared.Wrap.{Wrap}
-use Rattle.rules.specs.declared.Wrap.TheVariants.{By, Refused}
-use Rattle.rules.specs.declared.PackingCode.{PackingCode}
-use Rattle.rules.specs.declared.PackingCode.TheVariants.{By as Packed, Refused as NotPacked}
+use Rattle.rules.specs.declared.Refusal.{Refusal}
+use Rattle.rules.specs.declared.Refusal.TheVariants.{UnknownKind, SideOutside, ShortBuffer, UnknownWrap, NumberOutside, LevelAbove, DirectionOutside, KindNotTaken, CrossOutside, CutOutside, NotTheFile, PlaceOutside, UnknownPacking}
 use Rattle.rules.specs.Kinds.{cubemap, faces_of}
 use Rattle.rules.specs.Sizes.{top, count}
 use Rattle.rules.specs.Cuts.{cut_taken}
 use Rattle.rules.specs.Cross.{cross_width, cross_height}
 use Rattle.rules.specs.Ranges.{ranges_size}
 use Rattle.rules.specs.Floats.{magnitude}
-use Rattle.rules.specs.Lanes.{in_lanes, in_wholes, in_directions}
+use Rattle.rules.specs.Lanes.{Lanes, Wholes, Directions, in_lanes, in_directions}
 use Rattle.rules.specs.Wrapping.{wrap_code}
 use Rattle.rules.specs.Packing.{packing_code}
 use Rattle.rules.specs.Faces.{direction_taken}
@@ -31,6 +26,43 @@ n or_else m = cond (eqb n 0) m n
 -- n where the test fails
 abbrev pub unless : Bool → ℕ → ℕ
 unless test n = cond test 0 n
+
+-- each refusal's number
+abbrev pub number_of : Refusal → ℕ
+number_of UnknownKind = 1
+number_of SideOutside = 2
+number_of ShortBuffer = 3
+number_of UnknownWrap = 4
+number_of NumberOutside = 5
+number_of LevelAbove = 6
+number_of DirectionOutside = 7
+number_of KindNotTaken = 8
+number_of CrossOutside = 10
+number_of CutOutside = 11
+number_of NotTheFile = 12
+number_of PlaceOutside = 14
+number_of UnknownPacking = 15
+
+-- the number that an answer gives
+abbrev pub number_in : {A : Type 0} → Result A Refusal → ℕ
+number_in (Ok given) = 0
+number_in (Err refusal) = number_of refusal
+
+-- the refusal of a number that one has
+unfoldable pub refusal_of : ℕ → Refusal
+refusal_of n =
+    cond (eqb n 1) UnknownKind
+    (cond (eqb n 2) SideOutside
+    (cond (eqb n 3) ShortBuffer
+    (cond (eqb n 4) UnknownWrap
+    (cond (eqb n 5) NumberOutside
+    (cond (eqb n 6) LevelAbove
+    (cond (eqb n 7) DirectionOutside
+    (cond (eqb n 8) KindNotTaken
+    (cond (eqb n 10) CrossOutside
+    (cond (eqb n 11) CutOutside
+    (cond (eqb n 12) NotTheFile
+    (cond (eqb n 14) PlaceOutside UnknownPacking)))))))))))
 
 -- ---- the numbers
 
@@ -50,12 +82,11 @@ unfoldable pub buffer_refusal : ℕ → ℕ → ℕ
 buffer_refusal needed n = unless (leb needed n) 3
 
 -- 4: wrap code unknown
-abbrev pub wrap_refusal : Wrap → ℕ
-wrap_refusal (By mode) = 0
-wrap_refusal (Refused n) = n
+unfoldable pub wrap_refusal : ℕ → ℕ
+wrap_refusal code = number_in (wrap_code code)
 
 unfoldable pub sampler_refusal : Sampler → ℕ
-sampler_refusal s = wrap_refusal (wrap_code s.wrap_s) or_else wrap_refusal (wrap_code s.wrap_t)
+sampler_refusal s = wrap_refusal s.wrap_s or_else wrap_refusal s.wrap_t
 
 -- 5: a coordinate, step or fractional level is not finite, or a coordinate's magnitude is above 2,048
 abbrev pub high11 : Float
@@ -92,7 +123,7 @@ unfoldable pub face_refusal : ℕ → ℕ → ℕ
 face_refusal kind f = unless (face_taken kind f) 8
 
 unfoldable pub faces_refusal : ℕ → Wholes → ℕ
-faces_refusal kind faces = unless (in_wholes (face_taken kind) faces) 8
+faces_refusal kind faces = unless (in_lanes (face_taken kind) faces) 8
 
 -- 9 is retired and never used again. 10: a cross whose face sides fall outside 1 to 4,096
 unfoldable pub cross_sides_refusal : ℕ → ℕ → ℕ
@@ -107,12 +138,8 @@ unfoldable pub outside_refusal : ℕ → ℕ → ℕ → ℕ → ℕ
 outside_refusal w h x y = unless (ltb x w && ltb y h) 14
 
 -- 15: packing mode unknown
-abbrev pub packing_refusal : PackingCode → ℕ
-packing_refusal (Packed packing) = 0
-packing_refusal (NotPacked n) = n
-
 unfoldable pub mode_refusal : ℕ → ℕ
-mode_refusal mode = packing_refusal (packing_code mode)
+mode_refusal mode = number_in (packing_code mode)
 
 -- ---- the calls: n is the length of a lent buffer
 

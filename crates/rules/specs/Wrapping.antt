@@ -1,26 +1,26 @@
 -- Wrap codes, and a texel number wrapped into a side, over whole numbers. Definitions only.
-use Rattle.std.specs.Prelude.{cond, ℕ, ◌-◌, ◌*◌, ◌%◌, min, eqb, ℤ, pos, negsuc}
+use Rattle.std.specs.Prelude.{cond, Result, Ok, Err, ℕ, ◌-◌, ◌*◌, ◌%◌, min, eqb, ℤ, pos, negsuc}
 use Rattle.rules.specs.declared.Mode.{Mode}
 use Rattle.rules.specs.declared.Mode.TheVariants.{Repeat, Clamp, Mirror}
-use Rattle.rules.specs.declared.Wrap.{Wrap}
-use Rattle.rules.specs.declared.Wrap.TheVariants.{By, Refused}
+use Rattle.rules.specs.declared.Refusal.{Refusal}
+use Rattle.rules.specs.declared.Refusal.TheVariants.{UnknownWrap}
 
 -- what code 0, not given, stands for: glTF 2.0's default along both axes
 abbrev pub not_given : Mode
 not_given = Repeat
 
 -- 10497 Repeat, 33071 ClampToEdge, 33648 MirroredRepeat, 0 not given; every other code is refused
-unfoldable pub wrap_code : ℕ → Wrap
+unfoldable pub wrap_code : ℕ → Result Mode Refusal
 wrap_code code =
-    cond (eqb code 10497) (By Repeat)
-    (cond (eqb code 33071) (By Clamp)
-    (cond (eqb code 33648) (By Mirror)
-    (cond (eqb code 0) (By not_given) (Refused 4))))
+    cond (eqb code 10497) (Ok Repeat)
+    (cond (eqb code 33071) (Ok Clamp)
+    (cond (eqb code 33648) (Ok Mirror)
+    (cond (eqb code 0) (Ok not_given) (Err UnknownWrap))))
 
 -- the mode of a code that is known
-abbrev pub mode_in : Wrap → Mode
-mode_in (By mode) = mode
-mode_in (Refused n) = not_given
+abbrev pub mode_in : Result Mode Refusal → Mode
+mode_in (Ok mode) = mode
+mode_in (Err refusal) = not_given
 
 abbrev pub mode_of : ℕ → Mode
 mode_of code = mode_in (wrap_code code)

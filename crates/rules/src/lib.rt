@@ -1,31 +1,35 @@
-// The records that the calls take and the answers that they give. What each call answers is said in specs/.
+// The records that the calls take and give, the reasons for which they refuse, and the codes that stand for kinds and modes. What each
+// call answers is said in specs/.
 #![tactic(auto)]
 
-// Four numbers that travel together, one a lane.
+mod codes;
+mod refusals;
+
+// Four values that travel together, one a lane.
 #[derive(Clone, Copy)]
-pub struct Lanes {
-    pub a: f32,
-    pub b: f32,
-    pub c: f32,
-    pub d: f32,
+pub struct Four<T> {
+    pub a: T,
+    pub b: T,
+    pub c: T,
+    pub d: T,
 }
 
-// Four whole numbers, one a lane.
+// Four numbers.
+pub type Lanes = Four<f32>;
+
+// Four whole numbers.
+pub type Wholes = Four<u32>;
+
+// Three components.
 #[derive(Clone, Copy)]
-pub struct Wholes {
-    pub a: u32,
-    pub b: u32,
-    pub c: u32,
-    pub d: u32,
+pub struct Vector<T> {
+    pub x: T,
+    pub y: T,
+    pub z: T,
 }
 
 // Four directions; also four colours, red, green and blue.
-#[derive(Clone, Copy)]
-pub struct Directions {
-    pub x: Lanes,
-    pub y: Lanes,
-    pub z: Lanes,
-}
+pub type Directions = Vector<Lanes>;
 
 // The wrap codes along u and along v.
 #[derive(Clone, Copy)]
@@ -43,49 +47,11 @@ pub struct Pair {
 
 // Where a level starts and its sides, with the chain's texel count.
 #[derive(Clone, Copy)]
-pub enum Sizes {
-    Level {
-        start: usize,
-        width: u32,
-        height: u32,
-        total: usize,
-    },
-    Refused(u32),
-}
-
-// How many texels the chain has, or were written.
-#[derive(Clone, Copy)]
-pub enum Filled {
-    Texels(usize),
-    Refused(u32),
-}
-
-// How many bytes were written.
-#[derive(Clone, Copy)]
-pub enum Written {
-    Bytes(usize),
-    Refused(u32),
-}
-
-// A level number.
-#[derive(Clone, Copy)]
-pub enum Level {
-    At(u32),
-    Refused(u32),
-}
-
-// The colours of four lanes.
-#[derive(Clone, Copy)]
-pub enum Colour {
-    Rgb(Directions),
-    Refused(u32),
-}
-
-// One number for each of four lanes.
-#[derive(Clone, Copy)]
-pub enum Alpha {
-    Of(Lanes),
-    Refused(u32),
+pub struct LevelSizes {
+    pub start: usize,
+    pub width: u32,
+    pub height: u32,
+    pub total: usize,
 }
 
 // Where four directions meet the cube: places on the faces, and the faces.
@@ -96,50 +62,47 @@ pub struct Spots {
     pub faces: Wholes,
 }
 
-#[derive(Clone, Copy)]
-pub enum Facing {
-    On(Spots),
-    Refused(u32),
+// Why a call refuses, by document 01's numbers; 9 is retired.
+#[derive(Clone, Copy, Debug, PartialEq, Eq, Hash)]
+pub enum Refusal {
+    UnknownKind = 1,
+    SideOutside = 2,
+    ShortBuffer = 3,
+    UnknownWrap = 4,
+    NumberOutside = 5,
+    LevelAbove = 6,
+    DirectionOutside = 7,
+    KindNotTaken = 8,
+    CrossOutside = 10,
+    CutOutside = 11,
+    NotTheFile = 12,
+    PlaceOutside = 14,
+    UnknownPacking = 15,
+}
+
+// The five kinds of picture.
+#[derive(Clone, Copy, Debug, PartialEq, Eq, Hash)]
+pub enum Kind {
+    Srgb = 0,
+    Normal = 1,
+    MetallicRoughness = 2,
+    Cubemap = 3,
+    Linear = 4,
 }
 
 // The three wrap modes.
-#[derive(Clone, Copy)]
+#[derive(Clone, Copy, Debug, PartialEq, Eq, Hash)]
 pub enum Mode {
     Repeat,
     Clamp,
     Mirror,
 }
 
-#[derive(Clone, Copy)]
-pub enum Wrap {
-    By(Mode),
-    Refused(u32),
-}
-
 // The two packing modes.
-#[derive(Clone, Copy)]
+#[derive(Clone, Copy, Debug, PartialEq, Eq, Hash)]
 pub enum Packing {
     Truncating,
     Nearest,
-}
-
-#[derive(Clone, Copy)]
-pub enum PackingCode {
-    By(Packing),
-    Refused(u32),
-}
-
-// Whether a level, or each level of a chain, follows from the one before; else the first wrong texel's place.
-#[derive(Clone, Copy)]
-pub enum Verdict {
-    Follows,
-    WrongAt(usize),
-}
-
-#[derive(Clone, Copy)]
-pub enum Checked {
-    Of(Verdict),
-    Refused(u32),
 }
 
 // A level within a chain: where it starts, and its faces and their sides.
@@ -203,35 +166,14 @@ pub struct Pairing {
     pub part: f32,
 }
 
-// One direction.
+// Something for each of the four basis functions.
 #[derive(Clone, Copy)]
-pub struct Vector {
-    pub x: f32,
-    pub y: f32,
-    pub z: f32,
+pub struct Basis<T> {
+    pub constant: T,
+    pub y: T,
+    pub z: T,
+    pub x: T,
 }
 
-// A number for each of the four basis functions.
-#[derive(Clone, Copy)]
-pub struct Basis {
-    pub constant: f32,
-    pub y: f32,
-    pub z: f32,
-    pub x: f32,
-}
-
-// A colour for each of the four: the irradiance coefficients, or the sums that these are made of.
-#[derive(Clone, Copy)]
-pub struct Sh4 {
-    pub constant: Rgb,
-    pub y: Rgb,
-    pub z: Rgb,
-    pub x: Rgb,
-}
-
-// The irradiance coefficients of a cubemap.
-#[derive(Clone, Copy)]
-pub enum Irradiance {
-    Of(Sh4),
-    Refused(u32),
-}
+// A colour for each: the irradiance coefficients, or the sums that these are made of.
+pub type Sh4 = Basis<Rgb>;
