@@ -7,6 +7,7 @@ use crate::rule::Reduce;
 use rules::Packing;
 use texel::packing::{pack, unpack};
 
+#[derive(Clone, Copy)]
 pub struct Linear {
     pub packing: Packing,
 }

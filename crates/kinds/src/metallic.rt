@@ -11,6 +11,7 @@ use texel::bytes::{alpha, blue, green, red, rgba};
 use texel::packing::{pack, unpack};
 use texel::root::sqrt;
 
+#[derive(Clone, Copy)]
 pub struct MetallicRoughness {
     pub packing: Packing,
 }

@@ -8,6 +8,7 @@ use crate::rule::Reduce;
 use rules::Packing;
 use texel::packing::{pack, unpack};
 
+#[derive(Clone, Copy)]
 pub struct Normal {
     pub packing: Packing,
 }

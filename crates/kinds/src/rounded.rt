@@ -8,6 +8,7 @@ ghost use Rattle.rules.specs.Reducing.{linear_of};
 use crate::channel::{Quad, pairs_at};
 use crate::rule::Reduce;
 
+#[derive(Clone, Copy)]
 pub struct Rounded;
 
 // Red in the upper half, blue in the lower.

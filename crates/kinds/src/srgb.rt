@@ -13,6 +13,7 @@ use texel::curve::{curve_table, decode, encode};
 use texel::index::index_table;
 
 // The two tables are held here, to be lent to every texel.
+#[derive(Drop)]
 pub struct Srgb {
     packing: Packing,
     curve: [f32; 256],

@@ -1,0 +1,29 @@
+// The rule that a kind's code stands for, chosen once a call: 0 SRGB, 1 Normal, 2 MetallicRoughness; 3 Cubemap and 4 Linear are the plain
+// mean, and so is a code above 4, which every public call refuses.
+ghost use Rattle.std.specs.Prelude.{◌≡◌, ◌≤◌, length};
+ghost use Rattle.rules.specs.Sizes.{start};
+ghost use Rattle.rules.specs.Levels.{filled};
+ghost use Rattle.rules.specs.Reducing.{reduce_of};
+
+use crate::chain;
+use crate::shape::Shape;
+use kinds::linear::Linear;
+use kinds::metallic::MetallicRoughness;
+use kinds::normal::Normal;
+use kinds::rounded::Rounded;
+use kinds::srgb::Srgb;
+use rules::Packing;
+
+// The chain's levels by a kind and a packing mode.
+pub fn fill(kind: u32, packing: Packing, shape: Shape, left: usize, s: &mut [u32])
+    requires room { (1 ≤ left) × (start shape.faces shape.width shape.height left ≤ length s.old) }
+    ensures { s.new ≡ filled (reduce_of kind packing) shape.faces left shape.width shape.height s.old }
+{
+    match (kind, packing) {
+        (0, _) => chain::fill(&Srgb::new(packing), shape, left, s),
+        (1, _) => chain::fill(&Normal { packing }, shape, left, s),
+        (2, _) => chain::fill(&MetallicRoughness { packing }, shape, left, s),
+        (_, Packing::Nearest) => chain::fill(&Rounded, shape, left, s),
+        (_, Packing::Truncating) => chain::fill(&Linear { packing }, shape, left, s),
+    }
+}
