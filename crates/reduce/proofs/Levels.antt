@@ -1,23 +1,21 @@
 -- The next level is made row by row: row y of all rows, face after face, has the number y % h2 in the face y / h2, and its texels are those
 -- of the level's definition, i / w2 being y and i % w2 being x. Assumes nothing.
-use mathlib.Core.Path.{◌≡◌, refl, sym, ap, ◌∙◌}
+use mathlib.Core.Path.{◌≡◌, refl, ap, ◌∙◌}
 use mathlib.Core.List.{List}
 use Prim.Native.Nat.{ℕ, ◌+◌, ◌-◌, ◌*◌, ◌/◌, ◌%◌, ◌≤◌, ◌<◌, min}
-use native.Mathlib.Nat.{mod-lt, div-lt_iff_lt-mul, mul-le-mul, mul-le-mul_right, suc-mul, zero-mul}
+use native.Mathlib.Nat.{mod-lt, div-lt_iff_lt-mul, mul-le-mul, mul-le-mul_right, suc-mul}
 use native.Mathlib.Numerals.{add-one}
 use native.Mathlib.Omega.{arith}
-use lib.ListN.{length, get_or, take, drop}
-use lib.Seq.{get_or-drop, get_or-take}
+use lib.ListN.{length}
 use lib.Arith.{digits_lt, digits_div, digits_mod}
-use borrow.Rule.Slice.PartMut.{put_mid, mid_len}
+use borrow.Rule.Slice.PartMut.{put_mid}
 use Rattle.rules.specs.Sizes.{half}
 use Rattle.rules.specs.Levels.{tab, grid, texel, quad, next}
-use Rattle.kinds.specs.Runs.{over}
 use Rattle.reduce.specs.Rows.{held_of}
 use Rattle.reduce.specs.Levels.{Sides, first_row, second_row}
-use Rattle.kinds.proofs.Runs.{Over, over_first, over-more, over-all}
+use Rattle.kinds.proofs.Runs.{Over, over-more, over-all}
 use Rattle.reduce.proofs.Bounds.{texels, half-most}
-use Rattle.reduce.proofs.Rows.{over_put}
+use Rattle.reduce.proofs.Rows.{over_put, row_at, row-read}
 
 -- texel i of the level after l, counted through rows and faces
 unfoldable pub cell_of : (ℕ → ℕ → ℕ → ℕ → ℕ) → ℕ → ℕ → ℕ → ℕ → List ℕ → ℕ → ℕ
@@ -48,13 +46,6 @@ pub record Places (w h w2 h2 y texels after : ℕ) : Type 0 where
   pub few : y < 24576
   pub most : texels ≤ 100663296
 
--- a row of a level
-abbrev pub row_at : ℕ → ℕ → List ℕ → List ℕ
-row_at w r l = take (r + w - r) (drop r l)
-
-pub row-long : (w r : ℕ) (l : List ℕ) → r + w ≤ length l → length (row_at w r l) ≡ w
-row-long w r l le = mid_len r (r + w) l le ∙ omega arith
-
 module _ {faces w h w2 h2 : ℕ} {l : List ℕ} (t : Level faces w h w2 h2 l) where
   pub places : (y : ℕ) → y < faces * h2 → Places w h w2 h2 y (length l) (faces * h2 * w2)
   places y lt =
@@ -71,10 +62,6 @@ module _ {faces w h w2 h2 : ℕ} {l : List ℕ} (t : Level faces w h w2 h2 l) wh
         most = rw t.long (texels t.sides);
       }
 
-  -- a texel of the rows that are read is a texel of the level
-  read : (r x : ℕ) → x < w → get_or (row_at w (r * w) l) x 0 ≡ get_or l (r * w + x) 0
-  read r x lt = get_or-take (r * w + w - r * w) (drop (r * w) l) x 0 (omega arith) ∙ get_or-drop (r * w) l x 0
-
   -- a texel of the row that is made of them is one of the next level
   pub held-cell : (reduce : ℕ → ℕ → ℕ → ℕ → ℕ) (y : ℕ) → y < faces * h2 → (k : ℕ) → k < half w
       → held_of reduce w (row_at w (first_row w h h2 y) l) (row_at w (second_row w h h2 y) l) k ≡ cell_of reduce w h w2 h2 l (y * w2 + k)
@@ -88,10 +75,10 @@ module _ {faces w h w2 h2 : ℕ} {l : List ℕ} (t : Level faces w h w2 h2 l) wh
       rw (
         digits_div y kw,
         digits_mod y kw,
-        read r₀ (2 * k) x₀,
-        read r₀ (min (2 * k + 1) (w - 1)) x₁,
-        read r₁ (2 * k) x₀,
-        read r₁ (min (2 * k + 1) (w - 1)) x₁,
+        row-read w (r₀ * w) l (2 * k) x₀,
+        row-read w (r₀ * w) l (min (2 * k + 1) (w - 1)) x₁,
+        row-read w (r₁ * w) l (2 * k) x₀,
+        row-read w (r₁ * w) l (min (2 * k + 1) (w - 1)) x₁,
       )
 
   -- y rows stand, and one more is put behind them

@@ -5,7 +5,8 @@ use native.Mathlib.Omega.{arith}
 use lib.ListN.{length}
 use Rattle.rules.specs.Sizes.{half}
 use Rattle.kinds.proofs.Runs.{over_first}
-use Rattle.reduce.proofs.Levels.{Level, Places, places, row-long, rows_more, rows_end}
+use Rattle.reduce.proofs.Levels.{Level, Places, places, rows_more, rows_end}
+use Rattle.reduce.proofs.Rows.{row-long}
 use Rattle.reduce.proofs.level.make_next.Goals as goal
 use Rattle.reduce.proofs.level.make_next.Goals.{After-next-below, After-rows_above-above, After-loop-y}
 

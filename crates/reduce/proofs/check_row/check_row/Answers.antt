@@ -1,0 +1,15 @@
+-- `reduce::check_row::check_row` meets its contract: sources one wide, or wider.
+use mathlib.Core.Path.{◌≡◌}
+use native.Mathlib.Omega.{arith}
+use Rattle.reduce.proofs.Rows.{narrow-held}
+use Rattle.reduce.proofs.Standing.{right-ext, wide-right}
+use Rattle.reduce.proofs.check_row.check_row.Goals as goal
+
+pub returns-then-a-lt2 : goal.returns-then-a-lt2
+returns-then-a-lt2 g c =
+    right-ext _
+    (λ k lt. let z : k ≡ 0 = omega arith in rw z (narrow-held (g.R.Reduce.rule c.args.rule.now) _ _ c.args.a.now c.args.b.now (omega arith) c.narrow.ensures))
+    c.alike.ensures
+
+pub returns : goal.returns
+returns g c = wide-right (g.R.Reduce.rule _) _ _ _ _ (omega arith) (omega arith) c.check_pairs.ensures

@@ -1,0 +1,85 @@
+// Rows of a level as they stand, several at once where they are narrow: their sources lie one behind the other and are a level of their
+// own, and the level after it is those rows.
+ghost use Rattle.std.specs.Prelude.{◌≡◌, ◌+◌, ◌*◌, ◌<◌, ◌≤◌, ℕ, length};
+ghost use Rattle.rules.specs.Sizes.{half};
+ghost use Rattle.reduce.specs.Rows.{rows_of};
+ghost use Rattle.reduce.specs.Levels.{Run};
+ghost use Rattle.reduce.specs.Right.{Right};
+
+use crate::alike::alike;
+use crate::check_row::check_row;
+use crate::level::make_next;
+use crate::shape::{Above, Shape, halved};
+use kinds::rule::Reduce;
+
+// Narrower rows are looked at in blocks. Where the rule tells right rows by itself, only the narrowest.
+fn narrow_below<R: Reduce>(rule: &R) -> usize
+    ensures { result ≤ 78 }
+{
+    if rule.tells() { 8 } else { 78 }
+}
+
+// How many rows from row y on lie in a run: those of its face, or where no face has a row left over, all that follow.
+fn in_a_run(shape: Shape, y: usize) -> usize
+    requires { y < shape.faces * half shape.height }
+    ensures { Run shape.width shape.height (half shape.height) (shape.faces * half shape.height) y result }
+{
+    let h = shape.height;
+    let h2 = halved(h);
+    if h % 2 == 0 {
+        shape.faces * h2 - y
+    } else {
+        h2 - y % h2
+    }
+}
+
+// How many rows from row y on are looked at together: one, or as many of a run as make 128 texels, where each has two rows that it is made
+// from.
+pub fn together<R: Reduce>(rule: &R, shape: Shape, y: usize) -> usize
+    requires { y < shape.faces * half shape.height }
+    ensures run { Run shape.width shape.height (half shape.height) (shape.faces * half shape.height) y result }
+    ensures block { 2 ≤ result → (2 ≤ shape.height) × (result * half shape.width ≤ 128) }
+{
+    if shape.height < 2 || narrow_below(rule) <= shape.width {
+        return 1;
+    }
+    in_a_run(shape, y).min(128 / halved(shape.width))
+}
+
+// The m rows c, against the 2m rows w wide that are all of `above`.
+fn check_block<R: Reduce>(rule: &R, w: usize, m: usize, above: &[u32], c: &[u32]) -> usize
+    requires block { (1 ≤ w) × (w ≤ 4096) × (1 ≤ m) × (m * half w ≤ 128) }
+    requires rows { (length above.now ≡ 2 * m * w) × (length c.now ≡ m * half w) }
+    ensures { Right 0 c.now (length c.now) (rows_of (R.rule rule.now) w 0 w above.now) result }
+{
+    let n = c.len();
+    let mut made = [0u32; 128];
+    make_next(rule, Shape::new(1, w, 2 * m), above, &mut made[..n]);
+    alike(&made[..n], c)
+}
+
+// The m rows c, the first of them against the rows w wide at `above`: a block, or one row.
+pub fn check_rows<R: Reduce>(
+    rule: &R,
+    w: usize,
+    m: usize,
+    above: Above,
+    level: &[u32],
+    c: &[u32],
+) -> usize
+    requires room { (1 ≤ w) × (w ≤ 4096) × (1 ≤ m) × (above.first + w ≤ length level.now) × (above.second + w ≤ length level.now) × (length c.now ≡ m * half w) }
+    requires block { 2 ≤ m → (above.second ≡ above.first + w) × (above.first + 2 * m * w ≤ length level.now) × (m * half w ≤ 128) }
+    ensures { Right 0 c.now (length c.now) (rows_of (R.rule rule.now) w above.first above.second level.now) result }
+{
+    let first = above.first;
+    let second = above.second;
+    if 1 < m {
+        return check_block(rule, w, m, &level[first..first + 2 * m * w], c);
+    }
+    check_row(
+        rule,
+        &level[first..first + w],
+        &level[second..second + w],
+        c,
+    )
+}

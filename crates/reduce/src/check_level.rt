@@ -1,0 +1,44 @@
+// A level as it stands, held against what is made of the level before, rows after rows through all its faces.
+ghost use Rattle.std.specs.Prelude.{◌≡◌, ◌+◌, ◌*◌, ◌≤◌, length, get_or, take};
+ghost use Rattle.rules.specs.Sizes.{half};
+ghost use Rattle.rules.specs.Levels.{next};
+ghost use Rattle.reduce.specs.Right.{Right};
+
+use crate::check_block::{check_rows, together};
+use crate::shape::Shape;
+use kinds::rule::Reduce;
+
+// How many texels of c, the level after a level, are right before the first that is not.
+fn check_level<R: Reduce>(rule: &R, shape: Shape, level: &[u32], c: &[u32]) -> usize
+    requires level { length level.now ≡ shape.faces * shape.height * shape.width }
+    requires after { length c.now ≡ shape.faces * half shape.height * half shape.width }
+    ensures { Right 0 c.now (length c.now) (λ k. get_or (next (R.rule rule.now) shape.faces shape.width shape.height level.now) k 0) result }
+{
+    let below = shape.next();
+    let w2 = below.width;
+    let rows = below.faces * below.height;
+    let mut y = 0;
+    // A while: it goes on by the rows that are looked at together.
+    while y < rows {
+        let m = together(rule, shape, y);
+        let above = shape.rows_above(y);
+        let at = y * w2;
+        let n = m * w2;
+        let right = check_rows(rule, shape.width, m, above, level, &c[at..at + n]);
+        if right < n {
+            return at + right;
+        }
+        y += m;
+    }
+    c.len()
+}
+
+// Behind the level at the front of s stands the next: how many of its texels are right before the first that is not.
+pub fn check_next<R: Reduce>(rule: &R, shape: Shape, s: &[u32]) -> usize
+    requires room { shape.faces * shape.height * shape.width + shape.faces * half shape.height * half shape.width ≤ length s.now }
+    ensures { Right (shape.faces * shape.height * shape.width) s.now (shape.faces * half shape.height * half shape.width) (λ k. get_or (next (R.rule rule.now) shape.faces shape.width shape.height (take (shape.faces * shape.height * shape.width) s.now)) k 0) result }
+{
+    let n = shape.size();
+    let m = shape.next().size();
+    check_level(rule, shape, &s[..n], &s[n..n + m])
+}
