@@ -5,7 +5,8 @@ ghost use Rattle.rules.specs.Answers.{chain_answer, chain_leaves};
 use crate::packing::packing_code;
 use crate::refusals::chain_refusal;
 use crate::sizes::{count_of, faces_of, top_level};
-use reduce::chain::fill;
+use reduce::by_kind::fill;
+use reduce::shape::Shape;
 use rules::{Filled, PackingCode};
 
 // Fills the levels after level 0, each made from the one before by the packing mode, and answers how many texels the chain has.
@@ -20,10 +21,9 @@ pub fn generate_mipmaps(kind: u32, width: u32, height: u32, mode: u32, texels: &
     match packing_code(mode) {
         PackingCode::By(packing) => {
             let faces = faces_of(kind);
-            let w = width as usize;
-            let h = height as usize;
+            let shape = Shape::new(faces, width as usize, height as usize);
             let levels = (top_level(width, height) as usize) + 1;
-            fill(kind, packing, faces, w, h, levels, texels);
+            fill(kind, packing, shape, levels, texels);
             Filled::Texels(count_of(faces, width, height))
         }
         PackingCode::Refused(n) => Filled::Refused(n),

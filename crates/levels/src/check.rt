@@ -11,7 +11,8 @@ ghost use Rattle.levels.specs.Verdicts.{verdicts_from};
 use crate::packing::packing_code;
 use crate::refusals::{chain_refusal, level_refusal};
 use crate::sizes::{faces_of, side_at, start_of, top_level};
-use reduce::check_level::check_next;
+use reduce::by_kind::check_next;
+use reduce::shape::Shape;
 use rules::{Checked, Packing, PackingCode, Verdict};
 
 // One level's verdict: the first wrong texel's place. Level 0 always follows.
@@ -32,10 +33,11 @@ fn level_verdict(
     let faces = faces_of(kind);
     let w = side_at(width, level - 1) as usize;
     let h = side_at(height, level - 1) as usize;
+    let shape = Shape::new(faces, w, h);
     let before = start_of(faces, width, height, level - 1);
     let start = start_of(faces, width, height, level);
     let end = start_of(faces, width, height, level + 1);
-    let place = start + check_next(kind, packing, faces, w, h, &texels[before..]);
+    let place = start + check_next(kind, packing, shape, &texels[before..]);
     if place < end {
         Verdict::WrongAt(place)
     } else {

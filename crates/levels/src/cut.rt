@@ -9,7 +9,6 @@ ghost use Rattle.levels.specs.Cuts.{along, cut_cell};
 use crate::refusals::{buffer_refusal, no_cubemap_refusal, picture_refusal};
 use crate::sizes::faces_of;
 use choice::or_else;
-use reduce::row::put;
 use rules::{Filled, Pair};
 
 // n is a multiple of 2^order.
@@ -88,7 +87,8 @@ fn write_cut(w: usize, corner: Pair, sides: Pair, source: &[u32], target: &mut [
     let mut y = 0;
     while y < rows {
         let from = (top + y) * w + x;
-        put(across, y * across, &source[from..], target);
+        let to = y * across;
+        target[to..to + across].copy_from_slice(&source[from..from + across]);
         y += 1;
     }
 }

@@ -3,20 +3,22 @@
 -- the first place that holds something else. Assumes nothing.
 use mathlib.Core.Path.{◌≡◌, refl, sym, ap, ◌∙◌}
 use mathlib.Core.List.{List, ◌++◌}
-use Prim.Native.Nat.{ℕ, zero, suc, ◌+◌, ◌≤◌, ◌<◌}
+use Prim.Native.Nat.{ℕ, zero, suc, ◌+◌, ◌-◌, ◌≤◌, ◌<◌}
 use native.Mathlib.Nat.{zero-add}
 use native.Mathlib.Numerals.{add-one}
 use native.Mathlib.Omega.{arith}
 use lib.ListN.{length, get_or, take, drop, get_or-append}
-use lib.Seq.{set-get_or}
+use lib.Seq.{set-get_or, get_or-drop}
+use borrow.Author.Rules.{part_to_end}
+use borrow.Rule.Slice.PartMut.{put_mid}
 use Rattle.rules.specs.Sizes.{half}
 use Rattle.rules.specs.Levels.{tab}
-use Rattle.rules.proofs.Grid.{length-tab, get_or-tab}
+use Rattle.rules.proofs.Grid.{length-tab, get_or-tab, tab-ext}
 use Rattle.kinds.specs.Runs.{over, pair_of}
-use Rattle.kinds.proofs.Runs.{over-ext, Over, over_first, over-set, over-more}
+use Rattle.kinds.proofs.Runs.{over-ext, Over, over_first, over-set, over-more, over-all}
 use Rattle.reduce.specs.Rows.{held_of}
 use Rattle.reduce.specs.Right.{Right}
-use Rattle.reduce.proofs.Rows.{row_at, row-read, front-is, wide_at}
+use Rattle.reduce.proofs.Rows.{over_put, row_at, row-long, row-read, front-is, wide_at}
 
 module _ {at : ℕ} {s : List ℕ} {f : ℕ → ℕ} where
   -- one place more
@@ -50,6 +52,24 @@ module _ {at : ℕ} {s : List ℕ} {f : ℕ → ℕ} where
 pub front_at : (old : List ℕ) (n : ℕ) (f : ℕ → ℕ) (k : ℕ) → k < n → get_or (over 0 old n f) k 0 ≡ f k
 unfolding over
 front_at old n f k lt = get_or-append (tab n f) _ 0 k (omega (arith, length-tab n f)) ∙ get_or-tab n f k lt
+
+-- a list by its texels
+listed : (l : List ℕ) → l ≡ tab (length l) (λ k. get_or l k 0)
+listed l = over-all (stands-all {at = 0} {s = l} {f = λ k. get_or l k 0} (length l) (omega arith) (λ k lt. ap (λ (i : ℕ). get_or l i 0) (zero-add k))) refl
+
+-- texels that were copied from place `from` of a list on
+pub over-copied : (at m from : ℕ) (s source copy : List ℕ) → from + m ≤ length source → copy ≡ row_at m from source
+    → put_mid at (at + m - at) s copy ≡ over at s m (λ k. get_or (take (length source - from) (drop from source)) k 0)
+over-copied at m from s source copy room e =
+    let l = row_at m from source in
+    let f = λ (k : ℕ). get_or (take (length source - from) (drop from source)) k 0 in
+    let is : copy ≡ tab m f =
+        e
+        ∙ listed l
+        ∙ ap (λ (n : ℕ). tab n (λ k. get_or l k 0)) (row-long m from source room)
+        ∙ tab-ext m (λ k. get_or l k 0) f
+        (λ k lt. row-read m from source k lt ∙ sym (ap (λ (l : List ℕ). get_or l k 0) (part_to_end source from) ∙ get_or-drop from source k 0)) in
+    ap (λ (l : List ℕ). put_mid at (at + m - at) s l) is ∙ over_put at m s f
 
 -- told of a part alone
 pub right-part : {m r : ℕ} {f : ℕ → ℕ} (at : ℕ) (s : List ℕ) → at + m ≤ length s → Right 0 (row_at m at s) m f r → Right at s m f r

@@ -21,15 +21,17 @@ returns-then-refusal-ne0 c = let all = chain-stops _ _ _ _ _ c.chain_refusal-ref
 known : (c : goal.Else-refusal-ne0) → let a = c.args in Chained a.kind a.width a.height (length a.texels.now)
 known c = chain-facts _ _ _ _ (passed c.chain_refusal-refusal.ensures c.if-refusal-ne0.false)
 
+pub new-shape-requires : goal.new-shape-requires
+new-shape-requires c =
+    let kind = c.args.kind in
+    omega (arith, c.faces_of-faces.ensures, faces-some kind, faces-most kind, (known (goal.at.new-shape-requires c).Else-refusal-ne0).taken)
+
 pub fill-requires : goal.fill-requires
 unfolding count
 fill-requires c =
-    let k = known (goal.at.fill-requires c).Else-refusal-ne0 in
-    let kind = c.args.kind in
-    let faces = c.faces_of-faces.ensures in
+    let n = c.new-shape.ensures in
     record {
-      sides = omega (arith, faces, faces-some kind, faces-most kind, k.taken);
-      room = (omega arith, rw (faces, c.top_level.ensures, add-one) k.room);
+      room = (omega arith, rw (n.0, n.1, n.2, c.faces_of-faces.ensures, c.top_level.ensures, add-one) (known (goal.at.fill-requires c).Else-refusal-ne0).room);
     }
 
 pub count_of-requires : goal.count_of-requires
@@ -38,9 +40,9 @@ count_of-requires c =
 
 pub returns-in-By : goal.returns-in-By
 unfolding filled_of
-returns-in-By c = let all = let of = c.faces_of-faces.ensures in
+returns-in-By c = let all = let of = c.faces_of-faces.ensures in let n = c.new-shape.ensures in
     chain-goes _ _ _ _ _ (passed c.chain_refusal-refusal.ensures c.if-refusal-ne0.false) (sym c.in-By.is ∙ c.packing_code.ensures) (rw (c.count_of.ensures, of))
-    (c.fill.ensures ∙ rw (of, c.top_level.ensures, add-one)) in record {
+    (c.fill.ensures ∙ rw (n.0, n.1, n.2, of, c.top_level.ensures, add-one)) in record {
       answer = all.0;
       leaves = all.1;
     }

@@ -8,7 +8,7 @@ use Rattle.kinds.proofs.Runs.{over_first}
 use Rattle.reduce.specs.Rows.{rows_of}
 use Rattle.reduce.specs.Right.{Right}
 use Rattle.reduce.proofs.Rows.{row_at, row-long}
-use Rattle.reduce.proofs.Levels.{Level, places}
+use Rattle.reduce.proofs.Levels.{cell_of, Level, places}
 use Rattle.reduce.proofs.Standing.{right-all}
 use Rattle.reduce.proofs.StandingLevels.{as-next, room_for, sources, rows-go, rows-stop}
 use Rattle.reduce.proofs.check_level.check_level.Goals as goal
@@ -93,4 +93,6 @@ returns g c =
     let size = c.next-below.ensures in
     let all : c.loop-y.y ≡ c.next-below.result.faces * c.next-below.result.height = omega arith in
     let whole : c.loop-y.y * c.next-below.result.width ≡ length c.args.c.now = rw (all, size.0, size.2) (sym (long g n)) in
-    as-next (known g n) (g.R.Reduce.rule _) _ c.args.c.now c.requires.after (rw whole at (right-all c.loop-y.invariant.1))
+    let s = c.args.shape in
+    let cells = cell_of (g.R.Reduce.rule c.args.rule.now) s.width s.height c.next-below.result.width (half s.height) c.args.level.now in
+    as-next (known g n) (g.R.Reduce.rule _) _ c.args.c.now c.requires.after (rw whole at (right-all {f = cells} c.loop-y.invariant.1))
