@@ -12,10 +12,10 @@ use Rattle.kinds.proofs.Halves.{Words, red-byte, low_byte}
 use Rattle.kinds.proofs.Codes.{of-srgb, of-normal, of-metallic, of-linear}
 
 -- one channel of t lies between those of four texels
-abbrev pub AmidIn : (ℕ → ℕ) → Quad → ℕ → Type 0
+abbrev pub AmidIn : (ℕ → ℕ) → Quad ℕ → ℕ → Type 0
 AmidIn channel q t = Amid (channel q.p00) (channel q.p10) (channel q.p01) (channel q.p11) (channel t)
 
-pub record AmidTexel (q : Quad) (t : ℕ) : Type 0 where
+pub record AmidTexel (q : Quad ℕ) (t : ℕ) : Type 0 where
   pub red : AmidIn red_of q t
   pub green : AmidIn green_of q t
   pub blue : AmidIn blue_of q t
@@ -26,7 +26,7 @@ amid-lt : {a b c d v : ℕ} → a < 256 → b < 256 → c < 256 → d < 256 → 
 amid-lt A B C D m = let g = m.greatest in omega arith
 
 -- the channels of a texel that is made of four bytes
-made : (q : Quad) (r g b a : ℕ) → Words q
+made : (q : Quad ℕ) (r g b a : ℕ) → Words q
     → Amid (red_of q.p00) (red_of q.p10) (red_of q.p01) (red_of q.p11) r
     → Amid (green_of q.p00) (green_of q.p10) (green_of q.p01) (green_of q.p11) g
     → Amid (blue_of q.p00) (blue_of q.p10) (blue_of q.p01) (blue_of q.p11) b
@@ -50,7 +50,7 @@ Keeps rule = (a b c d : ℕ) → a < 256 → b < 256 → c < 256 → d < 256 →
 first-amid : (a b c d : ℕ) → Amid a b c d a
 first-amid a b c d = record { least = omega arith; greatest = omega arith }
 
-module _ (q : Quad) (w : Words q) where
+module _ (q : Quad ℕ) (w : Words q) where
   each : (rule : ℕ → ℕ → ℕ → ℕ → ℕ) → Keeps rule → AmidTexel q (each_of rule q.p00 q.p10 q.p01 q.p11)
   unfolding each_of
   each rule keeps =

@@ -11,7 +11,7 @@ use Rattle.kinds.specs.declared.channel.Quad.{Quad}
 use Rattle.kinds.specs.Quads.{sum_of}
 
 -- four 32-bit numbers
-pub record Words (q : Quad) : Type 0 where
+pub record Words (q : Quad ℕ) : Type 0 where
   pub first : q.p00 < 4294967296
   pub second : q.p10 < 4294967296
   pub third : q.p01 < 4294967296
@@ -44,7 +44,7 @@ quartered {h = h} {l = l} r k e = few h l r (rw (k.upper, k.lower) at e) k.high 
 halved : (s h l : ℕ) → s ≡ h * 65536 + l → h < 1024 → l < 1024 → Halved s h l
 halved s h l e H L = record { upper = omega arith; lower = omega arith; high = H; low = L }
 
-module _ (q : Quad) (w : Words q) where
+module _ (q : Quad ℕ) (w : Words q) where
   pub red-blue : (s : ℕ) → s ≡ sum_of red_of q * 65536 + sum_of blue_of q → Halved s (sum_of red_of q) (sum_of blue_of q)
   red-blue s e =
       let a = red-byte q.p00 w.first in

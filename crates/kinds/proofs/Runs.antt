@@ -7,6 +7,8 @@ use Prim.Native.Nat.{ℕ, zero, suc, ◌+◌, ◌≤◌, ◌<◌}
 use native.Mathlib.Nat.{zero-add, add-zero, add-suc, suc-add, add_assoc}
 use native.Mathlib.Omega.{arith}
 use lib.ListN.{length, get_or, take, drop, set, length-append, length-drop, take-append-drop, get_or-append}
+use lib.ListN.{drop_of_length-le}
+use mathlib.Core.List.{append-nil}
 use lib.Seq.{length-take-le, take_at, drop_at, drop-drop, get_or-take, get_or-append-add, set_split}
 use Rattle.rules.specs.Levels.{tab}
 use Rattle.rules.proofs.Grid.{length-tab, get_or-tab, tab-ext}
@@ -111,3 +113,12 @@ module _ {at : ℕ} {old : List ℕ} {n : ℕ} {f : ℕ → ℕ} {s : List ℕ} 
   -- after the last
   pub over-end : (m : ℕ) → n ≡ m → s ≡ over at old m f
   over-end m e = rw (← e) o.holds
+
+-- a run of all of the buffer
+pub over-all : {old : List ℕ} {n : ℕ} {f : ℕ → ℕ} {s : List ℕ} → Over 0 old n f s → n ≡ length old → s ≡ tab (length old) f
+unfolding over
+over-all {old} {n} {f} o e =
+    o.holds
+    ∙ ap (λ (l : List ℕ). tab n f ++ l) (drop_of_length-le old (omega arith))
+    ∙ append-nil (tab n f)
+    ∙ ap (λ (k : ℕ). tab k f) e

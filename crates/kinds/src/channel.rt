@@ -1,29 +1,37 @@
-// Four texels, and one channel of each.
+// Four of a thing, texels or one channel of each, and a texel of one channel's rule.
 ghost use Rattle.std.specs.Prelude.{◌≡◌, ◌+◌, ◌*◌, ◌≤◌, length};
-ghost use Rattle.rules.specs.Kinds.{red_of, green_of, blue_of, alpha_of};
 ghost use Rattle.rules.specs.Floats.{mean_of};
-ghost use Rattle.kinds.specs.Quads.{Pairs, Channel};
+ghost use Rattle.rules.specs.Reducing.{each_of};
+ghost use Rattle.kinds.specs.Quads.{Pairs, Each, Follows};
 
-// The four texels that one takes the place of.
+use texel::bytes::{alpha, blue, green, red, rgba};
+
+// What stands in the four texels that one takes the place of.
 #[derive(Clone, Copy)]
-pub struct Quad {
-    pub p00: u32,
-    pub p10: u32,
-    pub p01: u32,
-    pub p11: u32,
+pub struct Quad<T> {
+    pub p00: T,
+    pub p10: T,
+    pub p01: T,
+    pub p11: T,
 }
 
-// The same channel of four texels.
-#[derive(Clone, Copy)]
-pub struct Bytes {
-    pub a: u8,
-    pub b: u8,
-    pub c: u8,
-    pub d: u8,
+impl<T: Copy> Quad<T> {
+    // The same worked out of each.
+    pub fn map<U, F: Fn(T) -> U>(self, f: F) -> Quad<U>
+        requires { F.IsAlwaysCallable f }
+        ensures { Each (F.post f) self result }
+    {
+        Quad {
+            p00: f(self.p00),
+            p10: f(self.p10),
+            p01: f(self.p01),
+            p11: f(self.p11),
+        }
+    }
 }
 
 // The four texels of place x: a pair of each of two rows.
-pub fn pairs_at(x: usize, a: &[u32], b: &[u32]) -> Quad
+pub fn pairs_at(x: usize, a: &[u32], b: &[u32]) -> Quad<u32>
     requires { (2 * x + 2 ≤ length a.now) × (2 * x + 2 ≤ length b.now) }
     ensures { Pairs a.now b.now x result }
 {
@@ -36,57 +44,22 @@ pub fn pairs_at(x: usize, a: &[u32], b: &[u32]) -> Quad
     }
 }
 
-// Their reds.
-pub fn reds(q: Quad) -> Bytes
-    ensures { Channel red_of q result }
-{
-    Bytes {
-        a: texel::bytes::red(q.p00),
-        b: texel::bytes::red(q.p10),
-        c: texel::bytes::red(q.p01),
-        d: texel::bytes::red(q.p11),
-    }
-}
-
-// Their greens.
-pub fn greens(q: Quad) -> Bytes
-    ensures { Channel green_of q result }
-{
-    Bytes {
-        a: texel::bytes::green(q.p00),
-        b: texel::bytes::green(q.p10),
-        c: texel::bytes::green(q.p01),
-        d: texel::bytes::green(q.p11),
-    }
-}
-
-// Their blues.
-pub fn blues(q: Quad) -> Bytes
-    ensures { Channel blue_of q result }
-{
-    Bytes {
-        a: texel::bytes::blue(q.p00),
-        b: texel::bytes::blue(q.p10),
-        c: texel::bytes::blue(q.p01),
-        d: texel::bytes::blue(q.p11),
-    }
-}
-
-// Their alphas.
-pub fn alphas(q: Quad) -> Bytes
-    ensures { Channel alpha_of q result }
-{
-    Bytes {
-        a: texel::bytes::alpha(q.p00),
-        b: texel::bytes::alpha(q.p10),
-        c: texel::bytes::alpha(q.p01),
-        d: texel::bytes::alpha(q.p11),
-    }
-}
-
 // The sum of four numbers, left to right, then / 4.0.
-pub fn mean(a: f32, b: f32, c: f32, d: f32) -> f32
-    ensures { result ≡ mean_of a b c d }
+pub fn mean(p: Quad<f32>) -> f32
+    ensures { result ≡ mean_of p.p00 p.p10 p.p01 p.p11 }
 {
-    (((a + b) + c) + d) / 4.0
+    (((p.p00 + p.p10) + p.p01) + p.p11) / 4.0
+}
+
+// One rule for all four channels.
+pub fn each<F: Fn(Quad<u8>) -> u8>(byte: F, q: Quad<u32>) -> u32
+    requires { F.IsAlwaysCallable byte }
+    ensures { (rule : _) → Follows (F.post byte) rule → result ≡ each_of rule q.p00 q.p10 q.p01 q.p11 }
+{
+    rgba(
+        byte(q.map(red)),
+        byte(q.map(green)),
+        byte(q.map(blue)),
+        byte(q.map(alpha)),
+    )
 }

@@ -3,7 +3,7 @@ ghost use Rattle.std.specs.Prelude.{◌≡◌};
 ghost use Rattle.rules.specs.Answers.{chain_answer, chain_leaves};
 
 use crate::lent::{Lent, lent_chain};
-use reduce::chain::fill;
+use reduce::by_kind::fill;
 use rules::Refusal;
 
 // Fills the levels after level 0, each made from the one before by the packing mode, and answers how many texels the chain has.
@@ -20,14 +20,6 @@ pub fn generate_mipmaps(
 {
     let Lent { picture, packing } = lent_chain(kind, width, height, mode, texels.len())?;
     let levels = (picture.top_level() as usize) + 1;
-    fill(
-        picture.kind.code(),
-        packing,
-        picture.kind.faces(),
-        picture.width as usize,
-        picture.height as usize,
-        levels,
-        texels,
-    );
+    fill(picture.kind, packing, picture.shape(), levels, texels);
     Ok(picture.count())
 }

@@ -9,7 +9,7 @@ ghost use Rattle.rules.specs.Answers.{check_chain_answer, check_level_answer};
 
 use crate::lent::{Lent, lent_chain};
 use crate::picture::Picture;
-use reduce::check_level::check_next;
+use reduce::by_kind::check_next;
 use rules::{Packing, Refusal};
 
 // One level's verdict. Level 0 always follows.
@@ -20,20 +20,11 @@ fn level_verdict(picture: Picture, packing: Packing, texels: &[u32], level: u32)
     if level < 1 {
         return None;
     }
-    let w = picture.width_at(level - 1) as usize;
-    let h = picture.height_at(level - 1) as usize;
     let before = picture.start_of(level - 1);
     let start = picture.start_of(level);
     let end = picture.start_of(level + 1);
-    let place = start
-        + check_next(
-            picture.kind.code(),
-            packing,
-            picture.kind.faces(),
-            w,
-            h,
-            &texels[before..],
-        );
+    let shape = picture.shape_at(level - 1);
+    let place = start + check_next(picture.kind, packing, shape, &texels[before..]);
     if place < end { Some(place) } else { None }
 }
 

@@ -8,7 +8,6 @@ ghost use Rattle.levels.specs.Cuts.{along, cut_cell};
 
 use crate::picture::Picture;
 use crate::refusals::check_room;
-use reduce::row::put;
 use rules::{Pair, Refusal};
 
 // n is a multiple of 2^order.
@@ -83,7 +82,8 @@ fn write_cut(w: usize, corner: Pair, sides: Pair, source: &[u32], target: &mut [
     let rows = sides.y as usize;
     for y in 0..rows {
         let from = (top + y) * w + x;
-        put(across, y * across, &source[from..], target);
+        let to = y * across;
+        target[to..to + across].copy_from_slice(&source[from..from + across]);
     }
 }
 

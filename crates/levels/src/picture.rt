@@ -5,6 +5,7 @@ ghost use Rattle.rules.specs.Kinds.{faces_of, code_of};
 
 use crate::refusals::check_sides;
 use crate::sizes::{side_at, top_level};
+use reduce::shape::Shape;
 use rules::{Kind, Refusal};
 
 #[derive(Clone, Copy)]
@@ -35,6 +36,29 @@ impl Picture {
             width,
             height,
         })
+    }
+
+    // The shape of level 0.
+    pub fn shape(self) -> Shape
+        ensures { (result.faces ≡ faces_of (code_of self.kind)) × (result.width ≡ self.width) × (result.height ≡ self.height) }
+    {
+        Shape::new(
+            self.kind.faces(),
+            self.width as usize,
+            self.height as usize,
+        )
+    }
+
+    // The shape of a level.
+    pub fn shape_at(self, level: u32) -> Shape
+        requires { level ≤ 12 }
+        ensures { (result.faces ≡ faces_of (code_of self.kind)) × (result.width ≡ side_at level self.width) × (result.height ≡ side_at level self.height) }
+    {
+        Shape::new(
+            self.kind.faces(),
+            self.width_at(level) as usize,
+            self.height_at(level) as usize,
+        )
     }
 
     // The top level: floor(log2(larger side)).

@@ -1,97 +1,129 @@
--- A row is one run behind its sources, written by parts. A part reads its pairs from the buffer as it is by then; the parts before
--- it lie behind the sources, so it reads what was there at first. Where the sources are two wide and more no second place is held
--- to the row, and where they are one wide both places are the one texel. For any way to make one texel of four. Assumes nothing.
-use mathlib.Core.Path.{◌≡◌, refl, sym, ◌∙◌}
-use mathlib.Core.List.{List, [], ◌∷◌}
-use Prim.Native.Nat.{ℕ, ◌+◌, ◌-◌, ◌*◌, ◌/◌, ◌≤◌, ◌<◌, min}
-use native.Mathlib.Nat.{add-zero}
+-- A row is made part after part, each part of the pairs that lie behind those of the parts before it. Where the sources are two wide and
+-- more no second place is held to the row, and where they are one wide both places are the one texel. For any way to make one texel of
+-- four. Assumes nothing.
+use mathlib.Core.Path.{◌≡◌, sym, ap, ◌∙◌}
+use mathlib.Core.List.{List, ◌++◌}
+use Prim.Native.Nat.{ℕ, ◌+◌, ◌-◌, ◌*◌, ◌/◌, ◌%◌, ◌≤◌, ◌<◌, min}
+use native.Mathlib.Nat.{add-zero, zero-mul, add-mul, mul-le-mul_right, mod-lt, div-eq_of_lt, mod-eq_of_lt, div-lt_iff_lt-mul}
 use native.Mathlib.Omega.{arith}
-use lib.Dec.{lit<, lit≤}
-use lib.ListN.{length, get_or, take, drop, set, get_or-append}
-use lib.Seq.{get_or-drop}
+use lib.ListN.{length, get_or, take, drop, set}
+use lib.Seq.{get_or-drop, get_or-take, length-take-le, take_at}
 use borrow.Author.Rules.{part_to_end}
+use borrow.Rule.Slice.PartMut.{put_mid, mid_len, Post-is}
 use Rattle.rules.specs.Sizes.{half}
 use Rattle.rules.specs.Levels.{tab}
-use Rattle.rules.proofs.Grid.{length-tab, get_or-tab}
+use Rattle.rules.proofs.Grid.{length-tab, tab-ext}
 use Rattle.kinds.specs.Runs.{over, pair_of}
-use Rattle.reduce.specs.Rows.{held_of}
-use Rattle.kinds.proofs.Runs.{Over, over-same, over-more, over-one, over-ext, over-within}
+use Rattle.reduce.specs.Rows.{held_of, rows_of}
+use Rattle.kinds.proofs.Runs.{Over, over_first, over-set, over-more, over-all}
 
--- the run at the front of a list
-pub front_at : (old : List ℕ) (n : ℕ) (f : ℕ → ℕ) (k : ℕ) → k < n → get_or (over 0 old n f) k 0 ≡ f k
+-- m texels put into a part of a buffer
+pub over_put : (at m : ℕ) (s : List ℕ) (f : ℕ → ℕ) → put_mid at (at + m - at) s (tab m f) ≡ over at s m f
 unfolding over
-front_at old n f k lt = get_or-append (tab n f) _ 0 k (omega (arith, length-tab n f)) ∙ get_or-tab n f k lt
+over_put at m s f = rw (Post-is at (at + m) s (omega arith))
 
--- lists that agree below `to`, read through two starts
-pub seen : (to : ℕ) (s old : List ℕ) → ((i : ℕ) → i < to → get_or s i 0 ≡ get_or old i 0)
-    → (p q i j : ℕ) → p + i ≡ q + j → p + i < to → get_or (drop p s) i 0 ≡ get_or (drop q old) j 0
-seen to s old same p q i j e lt = rw (get_or-drop p s i 0, same (p + i) lt, e) (sym (get_or-drop q old j 0))
+-- w texels from place r on
+abbrev pub row_at : ℕ → ℕ → List ℕ → List ℕ
+row_at w r l = take (r + w - r) (drop r l)
 
--- two rows of two, p p and q q, and room for a texel behind them
-abbrev columns : ℕ → ℕ → List ℕ
-columns p q = p ∷ p ∷ q ∷ q ∷ 0 ∷ []
+pub row-long : (w r : ℕ) (l : List ℕ) → r + w ≤ length l → length (row_at w r l) ≡ w
+row-long w r l le = mid_len r (r + w) l le ∙ omega arith
+
+pub row-read : (w r : ℕ) (l : List ℕ) (x : ℕ) → x < w → get_or (row_at w r l) x 0 ≡ get_or l (r + x) 0
+row-read w r l x lt = get_or-take (r + w - r) (drop r l) x 0 (omega arith) ∙ get_or-drop r l x 0
+
+-- a place of rows that lie behind r
+pub row-behind : (n r p x : ℕ) (l : List ℕ) → p + x < n → get_or (drop p (row_at n r l)) x 0 ≡ get_or (drop (r + p) l) x 0
+row-behind n r p x l lt =
+    get_or-drop p (row_at n r l) x 0
+    ∙ row-read n r l (p + x) lt
+    ∙ ap (λ (k : ℕ). get_or l k 0) (omega arith)
+    ∙ sym (get_or-drop (r + p) l x 0)
+
+-- m texels made at the front of a part
+pub front-is : (m : ℕ) (part made : List ℕ) (f : ℕ → ℕ) → m ≤ length part → made ≡ tab (length (take m part)) f → take m (made ++ drop m part) ≡ tab m f
+front-is m part made f le e =
+    let is : made ≡ tab m f = e ∙ rw (length-take-le m part le) in
+    take_at made (drop m part) m (ap length is ∙ length-tab m f) ∙ is
 
 module _ (reduce : ℕ → ℕ → ℕ → ℕ → ℕ) where
-  -- pairs x later are those of the starts 2 * x later
-  pub pair-shift : (to r0 r1 x k : ℕ) (s old : List ℕ) → ((i : ℕ) → i < to → get_or s i 0 ≡ get_or old i 0)
-      → r0 + 2 * (x + k) + 1 < to → r1 + 2 * (x + k) + 1 < to
-      → pair_of reduce (drop (r0 + 2 * x) s) (drop (r1 + 2 * x) s) k ≡ pair_of reduce (drop r0 old) (drop r1 old) (x + k)
+  -- pairs x later
+  pub pair-on : (a b : List ℕ) (x k : ℕ) → pair_of reduce (drop (2 * x) a) (drop (2 * x) b) k ≡ pair_of reduce a b (x + k)
   unfolding pair_of
-  pair-shift to r0 r1 x k s old same p0 p1 =
-      let g = seen to s old same in
+  pair-on a b x k =
+      let first : 2 * x + 2 * k ≡ 2 * (x + k) = omega arith in
+      let second : 2 * x + (2 * k + 1) ≡ 2 * (x + k) + 1 = omega arith in
       rw (
-        g (r0 + 2 * x) r0 (2 * k) (2 * (x + k)) (omega arith) (omega arith),
-        g (r0 + 2 * x) r0 (2 * k + 1) (2 * (x + k) + 1) (omega arith) (omega arith),
-        g (r1 + 2 * x) r1 (2 * k) (2 * (x + k)) (omega arith) (omega arith),
-        g (r1 + 2 * x) r1 (2 * k + 1) (2 * (x + k) + 1) (omega arith) (omega arith),
+        get_or-drop (2 * x) a (2 * k) 0,
+        get_or-drop (2 * x) a (2 * k + 1) 0,
+        get_or-drop (2 * x) b (2 * k) 0,
+        get_or-drop (2 * x) b (2 * k + 1) 0,
+        first,
+        second,
       )
 
-  -- m texels made in the part o, and put behind
-  pub part-is : (to r0 r1 m : ℕ) (s buf o t : List ℕ)
-      → o ≡ over 0 buf m (pair_of reduce (take (length s - r0) (drop r0 s)) (take (length s - r1) (drop r1 s)))
-      → t ≡ over to s m (λ k. get_or o k 0)
-      → t ≡ over to s m (pair_of reduce (drop r0 s) (drop r1 s))
-  part-is to r0 r1 m s buf o t eo et =
-      et
-      ∙ over-ext to s m (λ k. get_or o k 0) (pair_of reduce (drop r0 s) (drop r1 s))
-      (λ k lt. rw (eo, part_to_end s r0, part_to_end s r1) (front_at buf m (pair_of reduce (drop r0 s) (drop r1 s)) k lt))
-
-  -- a turn of the loop over a row: a part of m texels
-  pub row-turn : (to r0 r1 n x m : ℕ) (old s t : List ℕ)
-      → Over to old x (pair_of reduce (drop r0 old) (drop r1 old)) s
-      → r0 + 2 * n ≤ to → r1 + 2 * n ≤ to → to + n ≤ length old → x + m ≤ n
-      → t ≡ over (to + x) s m (pair_of reduce (drop (r0 + 2 * x) s) (drop (r1 + 2 * x) s))
-      → Over to old (x + m) (pair_of reduce (drop r0 old) (drop r1 old)) t
-  row-turn to r0 r1 n x m old s t h p0 p1 room le et =
-      over-more h (to + x) m (pair_of reduce (drop (r0 + 2 * x) s) (drop (r1 + 2 * x) s)) t refl et (omega arith)
-      (λ k lt. pair-shift to r0 r1 x k s old (over-same h) (omega arith) (omega arith))
-
-  -- the texel of those two rows, written behind them
-  pub two-columns : (p q m : ℕ) (t : List ℕ) → m ≡ 1 → t ≡ over 4 (columns p q) m (pair_of reduce (drop 0 (columns p q)) (drop 2 (columns p q))) → get_or t 4 0 ≡ reduce p p q q
-  unfolding pair_of
-  two-columns p q m t em et = rw (et, em) (over-within 4 (columns p q) 1 (pair_of reduce (drop 0 (columns p q)) (drop 2 (columns p q))) 0 (lit≤ tt) (lit< tt))
-
-  -- a row one wide: both places of a pair are its one texel
-  pub narrow-is : (to r0 r1 v : ℕ) (s : List ℕ) → to < length s → v ≡ reduce (get_or s r0 0) (get_or s r0 0) (get_or s r1 0) (get_or s r1 0)
-      → set s to v ≡ over to s 1 (held_of reduce 1 (drop r0 s) (drop r1 s))
-  unfolding held_of
-  narrow-is to r0 r1 v s lt e =
-      over-one to s (held_of reduce 1 (drop r0 s) (drop r1 s)) v lt (e ∙ rw (get_or-drop r0 s 0 0, get_or-drop r1 s 0 0, add-zero r0, add-zero r1))
+  -- a turn of the loop over a row: m texels made in a part, and put behind those that stand
+  pub part-turn : (a b old s part made put : List ℕ) (x m : ℕ) → Over 0 old x (pair_of reduce a b) s → x + m ≤ length old → m ≤ length part
+      → made ≡ tab (length (take m part)) (pair_of reduce (take (length a - 2 * x) (drop (2 * x) a)) (take (length b - 2 * x) (drop (2 * x) b)))
+      → put ≡ take m (made ++ drop m part)
+      → Over 0 old (x + m) (pair_of reduce a b) (put_mid x (x + m - x) s put)
+  part-turn a b old s part made put x m o room le em ep =
+      let f = pair_of reduce (drop (2 * x) a) (drop (2 * x) b) in
+      let whole : put ≡ tab m f = ep ∙ front-is m part made f le (rw (part_to_end a (2 * x), part_to_end b (2 * x)) at em) in
+      over-more o x m f _ (omega arith) (ap (λ (l : List ℕ). put_mid x (x + m - x) s l) whole ∙ over_put x m s f) (omega arith) (λ k lt. pair-on a b x k)
 
   -- rows of two and more: no place is held
   pub wide_at : (w : ℕ) (a b : List ℕ) (k : ℕ) → k < w / 2 → pair_of reduce a b k ≡ held_of reduce w a b k
   unfolding pair_of held_of
   wide_at w a b k lt = let x : min (2 * k + 1) (w - 1) ≡ 2 * k + 1 = omega arith in rw x
 
-  pub wide_is : (to w r0 r1 : ℕ) (s t : List ℕ) → 2 ≤ w
-      → t ≡ over to s (w / 2) (pair_of reduce (drop r0 s) (drop r1 s)) → t ≡ over to s (half w) (held_of reduce w (drop r0 s) (drop r1 s))
-  wide_is to w r0 r1 s t le e =
-      let z : half w ≡ w / 2 = omega arith in
-      rw z (e ∙ over-ext to s (w / 2) (pair_of reduce (drop r0 s) (drop r1 s)) (held_of reduce w (drop r0 s) (drop r1 s)) (wide_at w (drop r0 s) (drop r1 s)))
+  pub wide_is : (w n : ℕ) (a b : List ℕ) → 2 ≤ w → n ≡ half w → tab n (pair_of reduce a b) ≡ tab n (held_of reduce w a b)
+  wide_is w n a b le e = tab-ext n _ _ (λ k lt. wide_at w a b k (omega arith))
 
-  -- rows of one: its texel is held
-  pub one-is : (to w r0 r1 : ℕ) (s t : List ℕ) → 1 ≤ w → w < 2
-      → t ≡ over to s 1 (held_of reduce 1 (drop r0 s) (drop r1 s)) → t ≡ over to s (half w) (held_of reduce w (drop r0 s) (drop r1 s))
-  one-is to w r0 r1 s t le lt e =
-      let z : w ≡ 1 = omega arith in
-      rw z e
+  -- a row one wide: both places of a pair are its one texel
+  pub narrow-held : (w v : ℕ) (a b : List ℕ) → w ≡ 1 → v ≡ reduce (get_or a 0 0) (get_or a 0 0) (get_or b 0 0) (get_or b 0 0) → v ≡ held_of reduce w a b 0
+  unfolding held_of
+  narrow-held w v a b one e = let held : min (2 * 0 + 1) (w - 1) ≡ 0 = omega arith in e ∙ rw held
+
+  pub narrow-is : (w v : ℕ) (a b o : List ℕ) → w ≡ 1 → length o ≡ 1 → v ≡ reduce (get_or a 0 0) (get_or a 0 0) (get_or b 0 0) (get_or b 0 0)
+      → set o 0 v ≡ tab (length o) (held_of reduce w a b)
+  narrow-is w v a b o one long e =
+      over-all (over-set (over_first 0 o (held_of reduce w a b) (omega arith)) 0 v (omega arith) (omega arith) (narrow-held w v a b one e)) (omega arith)
+
+  -- two rows by themselves, and as they lie in a level
+  pub held-row : (w p q : ℕ) (l : List ℕ) (i : ℕ) → 1 ≤ w → i < half w → held_of reduce w (row_at w p l) (row_at w q l) i ≡ held_of reduce w (drop p l) (drop q l) i
+  unfolding held_of
+  held-row w p q l i some lt =
+      let x₀ : 2 * i < w = omega arith in
+      let x₁ : min (2 * i + 1) (w - 1) < w = omega arith in
+      let read = λ (r x : ℕ) (few : x < w). row-read w r l x few ∙ sym (get_or-drop r l x 0) in
+      rw (read p (2 * i) x₀, read p (min (2 * i + 1) (w - 1)) x₁, read q (2 * i) x₀, read q (min (2 * i + 1) (w - 1)) x₁)
+
+  -- the first of rows
+  pub first-row : (w r0 r1 : ℕ) (s : List ℕ) (k : ℕ) → k < half w → rows_of reduce w r0 r1 s k ≡ held_of reduce w (drop r0 s) (drop r1 s) k
+  unfolding rows_of
+  first-row w r0 r1 s k lt = rw (div-eq_of_lt lt, mod-eq_of_lt lt, zero-mul w, add-zero r0, add-zero r1)
+
+  -- m rows whose sources are all of a list, and as the sources lie in a level
+  pub rows-behind : (w m r : ℕ) (l : List ℕ) (k : ℕ) → 1 ≤ w → k < m * half w → rows_of reduce w 0 w (row_at (2 * m * w) r l) k ≡ rows_of reduce w r (r + w) l k
+  unfolding rows_of held_of
+  rows-behind w m r l k some lt =
+      let pos : 0 < half w = omega arith in
+      let j : k / half w < m = (div-lt_iff_lt-mul pos).1 lt in
+      let i : k % half w < half w = mod-lt k pos in
+      let x₀ : 2 * (k % half w) < w = omega arith in
+      let x₁ : min (2 * (k % half w) + 1) (w - 1) < w = omega arith in
+      let on = 2 * (k / half w) * w in
+      let n = 2 * m * w in
+      let high : 2 * (k / half w) + 2 ≤ 2 * m = omega arith in
+      let inside : on + 2 * w ≤ n = omega (arith, mul-le-mul_right w high, add-mul (2 * (k / half w)) 2 w) in
+      let first : r + (0 + on) ≡ r + on = omega arith in
+      let second : r + (w + on) ≡ r + w + on = omega arith in
+      rw (
+        row-behind n r (0 + on) (2 * (k % half w)) l (omega arith),
+        row-behind n r (0 + on) (min (2 * (k % half w) + 1) (w - 1)) l (omega arith),
+        row-behind n r (w + on) (2 * (k % half w)) l (omega arith),
+        row-behind n r (w + on) (min (2 * (k % half w) + 1) (w - 1)) l (omega arith),
+        first,
+        second,
+      )

@@ -1,73 +1,52 @@
--- How far the next level stands behind a level: rows after rows, as it is written (Levels), but with one buffer as found and as left.
--- Rows that are right as a whole make it longer by so many; the first that are not say where the level is right no more. Assumes nothing.
+-- How far the next level stands: rows after rows. Rows that are right as a whole make it longer by so many; the first that are not say where
+-- the level is right no more. Assumes nothing.
 use mathlib.Core.Path.{◌≡◌, refl, sym, ap, ◌∙◌}
-use mathlib.Core.List.{List}
+use mathlib.Core.List.{List, ◌++◌}
 use Prim.Native.Nat.{ℕ, ◌+◌, ◌-◌, ◌*◌, ◌/◌, ◌%◌, ◌≤◌, ◌<◌, min}
-use native.Mathlib.Nat.{add_assoc, one-mul, add-mul, mul-le-mul, mul-le-mul_right, mod-lt, div-add-mod', div-lt_iff_lt-mul}
+use native.Mathlib.Nat.{add_assoc, zero-add, zero-mul, one-mul, add-mul, mul-le-mul, mul-le-mul_right, mod-lt, div-eq_of_lt, mod-eq_of_lt, div-add-mod', div-lt_iff_lt-mul}
 use native.Mathlib.Omega.{arith}
 use lib.ListN.{length, get_or, take, drop}
+use lib.Seq.{take_at}
 use Rattle.rules.specs.Sizes.{half}
-use Rattle.rules.specs.Levels.{grid, next}
+use Rattle.rules.specs.Levels.{next}
 use Rattle.rules.proofs.Grid.{get_or-tab}
-use Rattle.kinds.proofs.Runs.{over-is, over-more, over-end}
-use Rattle.reduce.specs.Rows.{held_of, rows_of}
+use Rattle.kinds.proofs.Runs.{Over}
+use Rattle.reduce.specs.Rows.{rows_of}
 use Rattle.reduce.specs.Levels.{first_row, second_row, Run}
 use Rattle.reduce.specs.Right.{Right}
 use Rattle.reduce.proofs.Bounds.{half-most}
-use Rattle.reduce.proofs.Levels.{cell_of, Rows, rows-places, row_in, held-cell, rows_more}
-use Rattle.reduce.proofs.Standing.{right-all, right-stop, right-ext}
+use Rattle.reduce.proofs.Levels.{cell_of, cells-next, Level, places, held-cell}
+use Rattle.reduce.proofs.Rows.{row_at, held-row}
+use Rattle.reduce.proofs.Runs.{run-even}
+use Rattle.reduce.proofs.Standing.{right-ext, right-part, turn-more, turn-stop}
 
-module _ {reduce : ℕ → ℕ → ℕ → ℕ → ℕ} {faces w h w2 h2 n : ℕ} {s : List ℕ} {y : ℕ} (t : Rows reduce faces w h w2 h2 n s s y) where
-  -- as the definition has it
-  as-next : {r : ℕ} → Right n s (faces * h2 * w2) (cell_of reduce w h w2 h2 (take n s)) r
-      → Right (faces * h * w) s (faces * half h * half w) (λ k. get_or (next reduce faces w h (take (faces * h * w) s)) k 0) r
-  unfolding next grid cell_of
-  as-next u =
-      right-ext (λ k. get_or (next reduce faces w h (take (faces * h * w) s)) k 0) (λ k lt. sym (get_or-tab (faces * half h * half w) _ k lt))
-      (rw (t.half-w, t.half-h, t.here) at u)
+-- the texels of the next level, as the definition has them
+pub cell-next : (reduce : ℕ → ℕ → ℕ → ℕ → ℕ) (faces w h : ℕ) (l : List ℕ) (k : ℕ) → k < faces * half h * half w
+    → get_or (next reduce faces w h l) k 0 ≡ cell_of reduce w h (half w) (half h) l k
+cell-next reduce faces w h l k lt =
+    ap (λ (l : List ℕ). get_or l k 0) (sym (cells-next reduce faces w h l)) ∙ get_or-tab (faces * half h * half w) (cell_of reduce w h (half w) (half h) l) k lt
 
-  -- all rows are right
-  pub rows_right : faces * h2 ≤ y → Right (faces * h * w) s (faces * half h * half w) (λ k. get_or (next reduce faces w h (take (faces * h * w) s)) k 0) (faces * h2 * w2)
-  rows_right le =
-      let e : y ≡ faces * h2 = omega arith in
-      as-next
-      (right-all (over-is n s (faces * h2 * w2) (cell_of reduce w h w2 h2 (take n s)) s t.room (over-end t.run (faces * h2 * w2) (ap (λ (k : ℕ). k * w2) e))))
+pub as-next : {faces w h w2 h2 r : ℕ} {l : List ℕ} (t : Level faces w h w2 h2 l) (reduce : ℕ → ℕ → ℕ → ℕ → ℕ) (n : ℕ) (c : List ℕ) → n ≡ faces * half h * half w
+    → Right 0 c n (cell_of reduce w h w2 h2 l) r → Right 0 c n (λ k. get_or (next reduce faces w h l) k 0) r
+as-next {faces} {w} {h} {l = l} t reduce n c e u =
+    right-ext (λ k. get_or (next reduce faces w h l) k 0) (λ k lt. sym (cell-next reduce faces w h l k (omega (arith, lt, e)))) (rw (t.half-w, t.half-h) at u)
 
-  -- row y is right up to its texel r
-  module _ (lt : y < faces * h2) {a b : ℕ} (r : ℕ) (e : (a ≡ first_row w h h2 y) × (b ≡ second_row w h h2 y))
-      (row : Right (n + y * w2) s (half w) (held_of reduce w (drop a s) (drop b s)) r) where
-    pub row_more : w2 ≤ r → Rows reduce faces w h w2 h2 n s s (y + 1)
-    row_more le =
-        let m = row.most in
-        let all : half w ≡ r = omega (arith, t.half-w) in
-        rows_more t lt s e (rw all row.same)
+-- the m rows from row y on, which lie in a run
+module _ {faces w h w2 h2 : ℕ} {l : List ℕ} (t : Level faces w h w2 h2 l) (y m : ℕ) (run : Run w h h2 (faces * h2) y m) where
+  -- where they stand, and how large the numbers get
+  pub room_for : y * w2 + m * w2 ≤ faces * h2 * w2
+  room_for = omega (arith, mul-le-mul_right w2 run.inside, add-mul y m w2)
 
-    pub row-stop : r < w2 → Right (faces * h * w) s (faces * half h * half w) (λ k. get_or (next reduce faces w h (take (faces * h * w) s)) k 0) (y * w2 + r)
-    row-stop few =
-        let p = rows-places t lt in
-        let few' : r < half w = omega (arith, t.half-w) in
-        let u : Right (n + y * w2) s (half w) (held_of reduce w (drop (first_row w h h2 y) s) (drop (second_row w h h2 y) s)) r = rw (e.0, e.1) at row in
-        as-next
-        (right-stop
-        (over-more t.run (n + y * w2) r _ s refl u.same (omega (arith, p.goes)) (λ k lk. held-cell t lt k (omega arith)))
-        (omega (arith, row_in w2 lt))
-        (λ z. u.other few' (ap (λ (i : ℕ). get_or s i 0) (add_assoc n (y * w2) r) ∙ z ∙ sym (held-cell t lt r few'))))
+  pub numbers : (y + m ≤ 24576) × (y * w2 + m * w2 ≤ 100663296)
+  numbers =
+      let all : faces * h2 ≤ 24576 = rw t.half-h (mul-le-mul t.sides.most-f (half-most t.sides)) in
+      let few : y + m ≤ 24576 = omega (arith, run.inside) in
+      let wide : w2 ≤ 4096 = omega (arith, t.half-w, t.sides) in
+      (few, rw (← add-mul y m w2) (mul-le-mul few wide))
 
-  -- the m rows from row y on, which lie in a run
-  module _ (m : ℕ) (run : Run w h h2 (faces * h2) y m) {a b : ℕ} (e : (a ≡ first_row w h h2 y) × (b ≡ second_row w h h2 y)) where
-    pub room_for : n + (y * w2 + m * half w) ≤ length s
-    room_for = omega (arith, t.room, mul-le-mul_right w2 run.inside, add-mul y m w2, ap (λ (k : ℕ). m * k) t.half-w)
-
-    -- how large the numbers get
-    pub numbers : (y + m ≤ 24576) × (y * w2 + m * w2 ≤ 100663296)
-    numbers =
-        let all : faces * h2 ≤ 24576 = rw t.half-h (mul-le-mul t.sides.most-f (half-most t.sides)) in
-        let few : y + m ≤ 24576 = omega (arith, run.inside) in
-        let wide : w2 ≤ 4096 = omega (arith, t.half-w, t.sides) in
-        (few, rw (← add-mul y m w2) (mul-le-mul few wide))
-
+  module _ {a b : ℕ} (e : (a ≡ first_row w h h2 y) × (b ≡ second_row w h h2 y)) where
     -- where a face is two rows high and more, their sources lie one behind the other in the level
-    pub sources : 2 ≤ h → (b ≡ a + w) × (a + 2 * m * w ≤ n)
+    pub sources : 2 ≤ h → (b ≡ a + w) × (a + 2 * m * w ≤ length l)
     sources high =
         let i = y % h2 in
         let pos : 0 < h2 = omega (arith, t.half-h) in
@@ -77,39 +56,73 @@ module _ {reduce : ℕ → ℕ → ℕ → ℕ → ℕ} {faces w h w2 h2 n : ℕ
         let last : y + (m - 1) < faces * h2 = omega (arith, run.inside) in
         let rows : 2 * m ≡ 2 * (m - 1) + 2 = omega arith in
         let rest : 2 * m * w ≡ 2 * (m - 1) * w + 2 * w = rw rows (add-mul (2 * (m - 1)) 2 w) in
-        (behind, omega (arith, (rows-places t last).texels1, run.seconds (m - 1) (omega arith), e.1, behind, rest))
+        (behind, omega (arith, (places t (y + (m - 1)) last).texels1, run.seconds (m - 1) (omega arith), e.1, behind, rest))
 
     -- their texels are those of the level
-    rows-cell : (k : ℕ) → k < m * half w → rows_of reduce w a b s k ≡ cell_of reduce w h w2 h2 (take n s) (y * w2 + k)
+    pub rows-cell : (reduce : ℕ → ℕ → ℕ → ℕ → ℕ) (k : ℕ) → k < m * w2 → rows_of reduce w a b l k ≡ cell_of reduce w h w2 h2 l (y * w2 + k)
     unfolding rows_of
-    rows-cell k lk =
+    rows-cell reduce k lk =
+        let wide = t.half-w in
         let pos : 0 < half w = omega arith in
-        let j : k / half w < m = (div-lt_iff_lt-mul pos).1 lk in
+        let few : k < m * half w = rw wide at lk in
+        let j : k / half w < m = (div-lt_iff_lt-mul pos).1 few in
+        let i : k % half w < half w = mod-lt k pos in
         let row : y + k / half w < faces * h2 = omega (arith, run.inside) in
-        let place : (y + k / half w) * w2 + k % half w ≡ y * w2 + k = rw (t.half-w, add-mul y (k / half w) (half w)) (omega (arith, div-add-mod' k (half w))) in
-        rw (e.0, e.1, ← run.firsts (k / half w) j, ← run.seconds (k / half w) j) (held-cell t row (k % half w) (mod-lt k pos) ∙ ap (cell_of reduce w h w2 h2 (take n s)) place)
+        let place : (y + k / half w) * w2 + k % half w ≡ y * w2 + k = rw (wide, add-mul y (k / half w) (half w)) (omega (arith, div-add-mod' k (half w))) in
+        rw (e.0, e.1, ← run.firsts (k / half w) j, ← run.seconds (k / half w) j)
+        (sym (held-row reduce w (first_row w h h2 (y + k / half w)) (second_row w h h2 (y + k / half w)) l (k % half w) t.sides.some-w i)
+        ∙ held-cell t reduce (y + k / half w) row (k % half w) i
+        ∙ ap (cell_of reduce w h w2 h2 l) place)
 
     -- and right up to their texel r
-    module _ (r : ℕ) (some : Right (n + y * w2) s (m * half w) (rows_of reduce w a b s) r) where
-      pub rows-go : m * w2 ≤ r → Rows reduce faces w h w2 h2 n s s (y + m)
-      rows-go le =
-          let most = some.most in
-          let all : r ≡ m * half w = omega (arith, ap (λ (k : ℕ). m * k) t.half-w) in
-          record {
-            sides = t.sides;
-            half-w = t.half-w;
-            half-h = t.half-h;
-            here = t.here;
-            below = run.inside;
-            room = t.room;
-            run = rw (add-mul y m w2, ap (λ (k : ℕ). m * k) t.half-w) (over-more t.run (n + y * w2) (m * half w) _ s refl (rw all at some.same) room_for rows-cell);
-          }
+    module _ (reduce : ℕ → ℕ → ℕ → ℕ → ℕ) {c : List ℕ} (long : length c ≡ faces * h2 * w2) (o : Over 0 c (y * w2) (cell_of reduce w h w2 h2 l) c)
+        (r : ℕ) (right : Right 0 (row_at (m * w2) (y * w2) c) (m * w2) (rows_of reduce w a b l) r) where
+      part : Right (y * w2) c (m * w2) (rows_of reduce w a b l) r
+      part = right-part (y * w2) c (omega (arith, room_for, long)) right
 
-      pub rows-stop : r < m * w2 → Right (faces * h * w) s (faces * half h * half w) (λ k. get_or (next reduce faces w h (take (faces * h * w) s)) k 0) (y * w2 + r)
-      rows-stop few =
-          let few' : r < m * half w = omega (arith, ap (λ (k : ℕ). m * k) t.half-w) in
-          as-next
-          (right-stop
-          (over-more t.run (n + y * w2) r _ s refl some.same (omega (arith, room_for)) (λ k lk. rows-cell k (omega arith)))
-          (omega (arith, mul-le-mul_right w2 run.inside, add-mul y m w2))
-          (λ z. some.other few' (ap (λ (i : ℕ). get_or s i 0) (add_assoc n (y * w2) r) ∙ z ∙ sym (rows-cell r few'))))
+      pub rows-go : m * w2 ≤ r → Over 0 c ((y + m) * w2) (cell_of reduce w h w2 h2 l) c
+      rows-go all = rw (add-mul y m w2) (turn-more {n = length c} o (omega arith) (omega (arith, room_for, long)) (rows-cell reduce) part all)
+
+      pub rows-stop : r < m * w2 → Right 0 c (length c) (cell_of reduce w h w2 h2 l) (y * w2 + r)
+      rows-stop few = turn-stop {n = length c} o (omega arith) (omega (arith, room_for, long)) (rows-cell reduce) part few
+
+-- a level that was made at the front of a part, and compared
+pub made-next : {r : ℕ} {c : List ℕ} (n : ℕ) (after part list : List ℕ) → after ≡ list → length list ≡ n
+    → Right 0 c n (λ k. get_or (take n (after ++ drop n part)) k 0) r → Right 0 c n (λ k. get_or list k 0) r
+made-next n after part list e long t =
+    right-ext (λ k. get_or list k 0) (λ k lt. ap (λ (l : List ℕ). get_or l k 0) (take_at after (drop n part) n (ap length e ∙ long) ∙ e)) t
+
+-- a block: 2m rows are a level of their own, and the level after it is those made of them
+pub block-right : {r : ℕ} {c : List ℕ} (reduce : ℕ → ℕ → ℕ → ℕ → ℕ) (w m n : ℕ) (l : List ℕ) → 1 ≤ w → w ≤ 4096 → 1 ≤ m → m ≤ 2048 → length l ≡ 2 * m * w → n ≡ m * half w
+    → Right 0 c n (λ k. get_or (next reduce 1 w (2 * m) l) k 0) r → Right 0 c n (rows_of reduce w 0 w l) r
+block-right reduce w m n l some most high few long en t = right-ext (rows_of reduce w 0 w l) same t
+  where
+    rows : half (2 * m) ≡ m
+    rows = omega arith
+
+    one : 1 * half (2 * m) ≡ m
+    one = one-mul (half (2 * m)) ∙ rows
+
+    level : Level 1 w (2 * m) (half w) (half (2 * m)) l
+    level =
+        record {
+          sides = record { some-f = omega arith; most-f = omega arith; some-w = some; most-w = most; some-h = omega arith; most-h = omega arith };
+          half-w = refl;
+          half-h = refl;
+          long = long ∙ ap (λ (k : ℕ). k * w) (sym (one-mul (2 * m)));
+        }
+
+    run : Run w (2 * m) (half (2 * m)) (1 * half (2 * m)) 0 m
+    run = run-even w (2 * m) (half (2 * m)) 1 0 m refl (omega arith) high (omega arith) (omega (arith, one))
+
+    starts : (0 ≡ first_row w (2 * m) (half (2 * m)) 0) × (w ≡ second_row w (2 * m) (half (2 * m)) 0)
+    starts =
+        let pos : 0 < half (2 * m) = omega arith in
+        let top : 0 * (2 * m) + 2 * 0 ≡ 0 = omega arith in
+        let next : 0 * (2 * m) + min (2 * 0 + 1) (2 * m - 1) ≡ 1 = omega arith in
+        (rw (div-eq_of_lt pos, mod-eq_of_lt pos, top) (sym (zero-mul w)), rw (div-eq_of_lt pos, mod-eq_of_lt pos, next) (sym (one-mul w)))
+
+    same : (k : ℕ) → k < n → get_or (next reduce 1 w (2 * m) l) k 0 ≡ rows_of reduce w 0 w l k
+    same k lt =
+        cell-next reduce 1 w (2 * m) l k (rw (one, ← en) lt)
+        ∙ sym (rows-cell level 0 m run starts reduce k (rw en at lt) ∙ ap (cell_of reduce w (2 * m) (half w) (half (2 * m)) l) (ap (λ (i : ℕ). i + k) (zero-mul (half w)) ∙ zero-add k))

@@ -1,96 +1,85 @@
-// Rows of a level as they stand, several at once where they are narrow: their sources lie one behind the other, so a copy of them is a
-// level of its own, and the chain's own step makes the level after it, which is those rows.
-ghost use Rattle.std.specs.Prelude.{◌≡◌, true, false, ℕ, ◌+◌, ◌*◌, ◌<◌, ◌≤◌, length};
+// Rows of a level as they stand, several at once where they are narrow: their sources lie one behind the other and are a level of their
+// own, and the level after it is those rows.
+ghost use Rattle.std.specs.Prelude.{◌≡◌, ◌+◌, ◌*◌, ◌<◌, ◌≤◌, ℕ, length};
 ghost use Rattle.rules.specs.Sizes.{half};
-ghost use Rattle.rules.specs.Reducing.{reduce_of};
 ghost use Rattle.reduce.specs.Rows.{rows_of};
-ghost use Rattle.reduce.specs.Levels.{Sides, Run};
+ghost use Rattle.reduce.specs.Levels.{Run};
 ghost use Rattle.reduce.specs.Right.{Right};
 
 use crate::alike::alike;
-use crate::check_row::{by_wholes, check_row};
-use crate::level::{halved, write_next};
-use crate::row::{least, put};
-use rules::Packing;
+use crate::check_row::check_row;
+use crate::level::make_next;
+use crate::shape::{Above, Shape, halved};
+use kinds::rule::Reduce;
 
-// Narrower rows are looked at in blocks. Of rows above that no two have room, or whole numbers tell them without a copy.
-fn narrow_below(kind: u32, packing: Packing) -> usize
+// Narrower rows are looked at in blocks. Where the rule tells right rows by itself, only the narrowest.
+fn narrow_below<R: Reduce>(rule: &R) -> usize
     ensures { result ≤ 78 }
 {
-    if by_wholes(kind, packing) { 8 } else { 78 }
-}
-
-// Whether a level's rows are looked at in blocks: they are narrow, and each has two rows that it is made from.
-pub fn in_blocks(kind: u32, packing: Packing, w: usize, h: usize) -> bool
-    ensures { (result ≡ true) → (w < 78) × (2 ≤ h) }
-{
-    h > 1 && w < narrow_below(kind, packing)
+    if rule.tells() { 8 } else { 78 }
 }
 
 // How many rows from row y on lie in a run: those of its face, or where no face has a row left over, all that follow.
-fn in_a_run(faces: usize, h: usize, y: usize) -> usize
-    requires { (1 ≤ h) × (y < faces * half h) × (faces * half h ≤ 24576) }
-    ensures { (w : ℕ) → Run w h (half h) (faces * half h) y result }
+fn in_a_run(shape: Shape, y: usize) -> usize
+    requires { y < shape.faces * half shape.height }
+    ensures { Run shape.width shape.height (half shape.height) (shape.faces * half shape.height) y result }
 {
+    let h = shape.height;
     let h2 = halved(h);
     if h % 2 == 0 {
-        faces * h2 - y
+        shape.faces * h2 - y
     } else {
         h2 - y % h2
     }
 }
 
-// How many rows from row y on are looked at together: in blocks, as many of a run as 384 texels hold with their sources.
-pub fn together(blocks: bool, faces: usize, w: usize, h: usize, y: usize) -> usize
-    requires { Sides faces w h × (y < faces * half h) × ((blocks ≡ true) → (w < 78)) }
-    ensures { Run w h (half h) (faces * half h) y result × ((blocks ≡ false) → (result ≡ 1)) × ((blocks ≡ true) → (2 * result * w + result * half w ≤ 384)) }
+// How many rows from row y on are looked at together: one, or as many of a run as make 128 texels, where each has two rows that it is made
+// from.
+pub fn together<R: Reduce>(rule: &R, shape: Shape, y: usize) -> usize
+    requires { y < shape.faces * half shape.height }
+    ensures run { Run shape.width shape.height (half shape.height) (shape.faces * half shape.height) y result }
+    ensures block { 2 ≤ result → (2 ≤ shape.height) × (result * half shape.width ≤ 128) }
 {
-    if blocks {
-        return least(in_a_run(faces, h, y), 384 / (2 * w + halved(w)));
+    if shape.height < 2 || narrow_below(rule) <= shape.width {
+        return 1;
     }
-    1
+    in_a_run(shape, y).min(128 / halved(shape.width))
 }
 
-// The m rows at `at`, against the 2m rows w wide at r0.
-fn check_block(
-    kind: u32,
-    packing: Packing,
-    w: usize,
-    m: usize,
-    r0: usize,
-    at: usize,
-    s: &[u32],
-    made: &mut [u32],
-) -> usize
-    requires block { (1 ≤ w) × (1 ≤ m) × (2 * m * w + m * half w ≤ 384) }
-    requires room { (r0 + 2 * m * w ≤ at) × (at + m * half w ≤ length s.now) × (640 ≤ length made.old) }
-    ensures { Right at s.now (m * half w) (rows_of (reduce_of kind packing) w r0 (r0 + w) s.now) result }
+// The m rows c, against the 2m rows w wide that are all of `above`.
+fn check_block<R: Reduce>(rule: &R, w: usize, m: usize, above: &[u32], c: &[u32]) -> usize
+    requires block { (1 ≤ w) × (w ≤ 4096) × (1 ≤ m) × (m * half w ≤ 128) }
+    requires rows { (length above.now ≡ 2 * m * w) × (length c.now ≡ m * half w) }
+    ensures { Right 0 c.now (length c.now) (rows_of (R.rule rule.now) w 0 w above.now) result }
 {
-    let n = 2 * m * w;
-    put(n, 0, &s[r0..], made);
-    write_next(kind, packing, 1, w, 2 * m, made);
-    alike(m * halved(w), at, &made[n..], s)
+    let n = c.len();
+    let mut made = [0u32; 128];
+    make_next(rule, Shape::new(1, w, 2 * m), above, &mut made[..n]);
+    alike(&made[..n], c)
 }
 
-// The m rows at `at`, the first of them against the rows w wide at r0 and r1: a block, or one row.
-pub fn check_rows(
-    kind: u32,
-    packing: Packing,
-    blocks: bool,
+// The m rows c, the first of them against the rows w wide at `above`: a block, or one row.
+pub fn check_rows<R: Reduce>(
+    rule: &R,
     w: usize,
     m: usize,
-    r0: usize,
-    r1: usize,
-    at: usize,
-    s: &[u32],
-    made: &mut [u32],
+    above: Above,
+    level: &[u32],
+    c: &[u32],
 ) -> usize
-    requires room { (1 ≤ w) × (1 ≤ m) × (r0 + w ≤ at) × (r1 + w ≤ at) × (at + m * half w ≤ length s.now) × (640 ≤ length made.old) }
-    requires shape { ((blocks ≡ true) → (r1 ≡ r0 + w) × (r0 + 2 * m * w ≤ at) × (2 * m * w + m * half w ≤ 384)) × ((blocks ≡ false) → (m ≡ 1)) }
-    ensures { Right at s.now (m * half w) (rows_of (reduce_of kind packing) w r0 r1 s.now) result }
+    requires room { (1 ≤ w) × (w ≤ 4096) × (1 ≤ m) × (above.first + w ≤ length level.now) × (above.second + w ≤ length level.now) × (length c.now ≡ m * half w) }
+    requires block { 2 ≤ m → (above.second ≡ above.first + w) × (above.first + 2 * m * w ≤ length level.now) × (m * half w ≤ 128) }
+    ensures { Right 0 c.now (length c.now) (rows_of (R.rule rule.now) w above.first above.second level.now) result }
 {
-    if blocks {
-        return check_block(kind, packing, w, m, r0, at, s, made);
+    let first = above.first;
+    let second = above.second;
+    if 1 < m {
+        return check_block(rule, w, m, &level[first..first + 2 * m * w], c);
     }
-    check_row(kind, packing, w, r0, r1, at, s, made)
+    check_row(
+        rule,
+        &level[first..first + w],
+        &level[second..second + w],
+        c,
+    )
 }

@@ -2,9 +2,11 @@
 #![tactic(auto)]
 
 pub mod alike;
+pub mod by_kind;
 pub mod chain;
 pub mod check_block;
 pub mod check_level;
 pub mod check_row;
 pub mod level;
 pub mod row;
+pub mod shape;

@@ -6,13 +6,14 @@ use Rattle.kinds.proofs.linear.byte.Goals as goal
 
 pub pack-requires : goal.pack-requires
 pack-requires c =
+    let p = c.map.ensures in
     rw c.mean.ensures
     (mean-in _ _ _ _
-    (unpacked-in c.unpack.ensures (search rules))
-    (unpacked-in c.unpack-2.ensures (search rules))
-    (unpacked-in c.unpack-3.ensures (search rules))
-    (unpacked-in c.unpack-4.ensures (search rules)))
+    (unpacked-in p.first (search rules))
+    (unpacked-in p.second (search rules))
+    (unpacked-in p.third (search rules))
+    (unpacked-in p.fourth (search rules)))
 
 pub returns : goal.returns
 unfolding mean_byte
-returns c = cc
+returns c = let p = c.map.ensures in rw (c.pack.ensures, c.mean.ensures, p.first, p.second, p.third, p.fourth)

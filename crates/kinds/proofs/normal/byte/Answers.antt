@@ -7,9 +7,10 @@ use Rattle.kinds.proofs.normal.byte.Goals as goal
 pub pack-requires : goal.pack-requires
 pack-requires c =
     let p = c.args.p in
-    rw (c.mean-m.ensures, c.spread.ensures, c.spread-2.ensures, c.spread-3.ensures, c.spread-4.ensures)
-    (normal-in _ _ _ _ (unpack-in p.a (search rules)) (unpack-in p.b (search rules)) (unpack-in p.c (search rules)) (unpack-in p.d (search rules)))
+    let s = c.map.ensures in
+    rw (c.mean.ensures, s.first, s.second, s.third, s.fourth)
+    (normal-in _ _ _ _ (unpack-in p.p00 (search rules)) (unpack-in p.p10 (search rules)) (unpack-in p.p01 (search rules)) (unpack-in p.p11 (search rules)))
 
 pub returns : goal.returns
 unfolding normal_byte
-returns c = cc
+returns c = let s = c.map.ensures in rw (c.pack.ensures, c.mean.ensures, s.first, s.second, s.third, s.fourth)

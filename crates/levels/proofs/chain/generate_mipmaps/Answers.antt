@@ -9,16 +9,18 @@ use Rattle.rules.proofs.Answering.{told_none}
 use Rattle.rules.proofs.Refusing.{answer-given}
 use Rattle.levels.proofs.chain.generate_mipmaps.Goals as goal
 
-pub fill-requires-clause-room : goal.fill-requires-clause-room
+pub fill-requires : goal.fill-requires
 unfolding count
-fill-requires-clause-room c =
+fill-requires c =
     let is = c.in_ok-picture.ensures.is.0 in
-    (omega arith, rw (c.faces.ensures, c.top_level.ensures.0, is.0, is.1, is.2, add-one) c.in_ok-picture.ensures.room)
+    let s = c.shape.ensures in
+    record { room = (omega arith, rw (s.0, s.1, s.2, c.top_level.ensures.0, is.0, is.1, is.2, add-one) c.in_ok-picture.ensures.room) }
 
 pub returns-clause-leaves : goal.returns-clause-leaves
 unfolding filled_of chain_leaves
 returns-clause-leaves c =
     let given = c.in_ok-picture.ensures in
     let is = given.is.0 in
+    let s = c.shape.ensures in
     c.fill.ensures
-    ∙ rw (c.code.ensures, c.faces.ensures, c.top_level.ensures.0, is.0, is.1, is.2, given.is.1, add-one) (sym (answer-given _ _ _ (told_none _ (sym given.told))))
+    ∙ rw (s.0, s.1, s.2, c.top_level.ensures.0, is.0, is.1, is.2, given.is.1, add-one) (sym (answer-given _ _ _ (told_none _ (sym given.told))))

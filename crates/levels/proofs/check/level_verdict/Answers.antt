@@ -23,11 +23,8 @@ returns-then-level-lt1 c =
 known : (c : goal.Else-level-lt1) → let p = c.args.picture in Behind (faces_of (code_of p.kind)) p.width p.height c.args.level (length c.args.texels.now)
 known c = let p = c.requires in behind _ _ _ _ _ c.args.picture.sides p.0 p.1 (omega arith)
 
-pub width_at-w-requires : goal.width_at-w-requires
-width_at-w-requires c = let k = known (goal.at.width_at-w-requires c).Else-level-lt1 in omega (arith, k.few)
-
-pub height_at-h-requires : goal.height_at-h-requires
-height_at-h-requires c = let k = known (goal.at.height_at-h-requires c).Else-level-lt1 in omega (arith, k.few)
+pub shape_at-shape-requires : goal.shape_at-shape-requires
+shape_at-shape-requires c = omega (arith, (known (goal.at.shape_at-shape-requires c).Else-level-lt1).few)
 
 pub start_of-before-requires : goal.start_of-before-requires
 start_of-before-requires c =
@@ -65,10 +62,10 @@ slice_bounds-check_next-start c = omega (arith, fits (goal.at.slice_bounds-check
 pub check_next-requires : goal.check_next-requires
 check_next-requires c =
     let k = known (goal.at.check_next-requires c).Else-level-lt1 in
+    let s = c.shape_at-shape.ensures in
     record {
-      sides = rw (c.faces.ensures, c.width_at-w.ensures, c.height_at-h.ensures) k.sides;
       room =
-          rw (part_to_end _ c.start_of-before.result, length-drop, c.start_of-before.ensures, c.faces.ensures, c.width_at-w.ensures, c.height_at-h.ensures)
+          rw (part_to_end _ c.start_of-before.result, length-drop, c.start_of-before.ensures, s.0, s.1, s.2)
           (omega (arith, k.starts, k.ends, k.inside));
     }
 
@@ -78,8 +75,9 @@ ends c =
     let p = c.args.picture in
     let m = c.args.level - 1 in
     let k = known (goal.at.After-check_next c).Else-level-lt1 in
+    let s = c.shape_at-shape.ensures in
     let most : c.check_next.result ≤ faces_of (code_of p.kind) * half (side_at m p.height) * half (side_at m p.width)
-    = rw (c.faces.ensures, c.width_at-w.ensures, c.height_at-h.ensures) at c.check_next.ensures.most in
+    = rw (s.0, s.1, s.2) at c.check_next.ensures.most in
     rw c.start_of-start.ensures (omega (arith, most, k.ends, k.inside))
 
 pub overflow_add-place : goal.overflow_add-place
@@ -98,9 +96,10 @@ found c =
     let p = a.picture in
     let K = code_of p.kind in
     let before = c.start_of-before in
+    let s = c.shape_at-shape.ensures in
     rw (c.start_of-start.ensures, c.start_of-end.ensures)
     (judged (reduce_of K a.packing) (faces_of K) p.width p.height a.level a.texels.now c.check_next.result (omega arith) (known (goal.at.After-check_next c).Else-level-lt1)
-    (rw (part_to_end a.texels.now before.result, before.ensures, c.code.ensures, c.faces.ensures, c.width_at-w.ensures, c.height_at-h.ensures) at c.check_next.ensures))
+    (rw (part_to_end a.texels.now before.result, before.ensures, s.0, s.1, s.2) at c.check_next.ensures))
 
 pub returns-then-place-end : goal.returns-then-place-end
 returns-then-place-end c = (found (goal.at.returns-then-place-end c).After-check_next).0 c.if-place-end.true

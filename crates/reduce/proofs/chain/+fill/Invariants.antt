@@ -2,4 +2,4 @@
 use Rattle.reduce.proofs.chain.+fill.Given as goal
 
 abbrev pub decreases-fill : goal.decreases-fill
-decreases-fill l = l.left
+decreases-fill g l = l.left

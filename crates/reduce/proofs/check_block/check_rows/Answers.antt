@@ -1,35 +1,32 @@
 -- `reduce::check_block::check_rows` meets its contract: a block, or one row.
-use mathlib.Core.Path.{◌≡◌, sym}
-use Prim.Native.Nat.{◌*◌}
+use mathlib.Core.Path.{◌≡◌, sym, ap, ◌∙◌}
+use Prim.Native.Nat.{ℕ, ◌*◌, ◌<◌}
 use native.Mathlib.Nat.{one-mul}
 use native.Mathlib.Omega.{arith}
 use Rattle.rules.specs.Sizes.{half}
-use Rattle.rules.specs.Reducing.{reduce_of}
-use Rattle.reduce.proofs.Standing.{right-ext, first-row}
+use Rattle.reduce.proofs.Rows.{row-long, held-row, first-row, rows-behind}
+use Rattle.reduce.proofs.Standing.{right-ext}
 use Rattle.reduce.proofs.check_block.check_rows.Goals as goal
-use Rattle.reduce.proofs.check_block.check_rows.Goals.{Else-blocks}
 
-pub check_block-requires : goal.check_block-requires
-check_block-requires c =
-    let fits = c.requires.shape.0 c.if-blocks.true in
-    omega arith
-
-pub returns-then-blocks : goal.returns-then-blocks
-returns-then-blocks c =
-    rw (c.requires.shape.0 c.if-blocks.true).0 c.check_block.ensures
-
--- what is no block is one row
-one : (c : goal.Else-blocks) → c.args.m ≡ 1
-one c = c.requires.shape.1 c.if-blocks.false
-
-pub check_row-requires : goal.check_row-requires
-check_row-requires c =
+pub returns-then-m-gt1 : goal.returns-then-m-gt1
+returns-then-m-gt1 g c =
     let a = c.args in
-    let texels : a.m * half a.w ≡ half a.w = rw (one (goal.at.check_row-requires c).Else-blocks) (one-mul (half a.w)) in
-    omega (arith, texels)
+    let room = c.requires.room in
+    let block = c.requires.block c.if-m-gt1.true in
+    rw block.0
+    (right-ext _ (λ k lt. rows-behind (g.R.Reduce.rule a.rule.now) a.w a.m a.above.first a.level.now k room.0 (omega (arith, lt, room))) c.check_block.ensures)
 
 pub returns : goal.returns
-returns c =
+returns g c =
     let a = c.args in
-    rw (one (goal.at.returns c).Else-blocks, one-mul (half a.w))
-    (right-ext _ (λ k lt. sym (first-row (reduce_of a.kind a.packing) a.w a.r0 a.r1 a.s.now k lt)) c.check_row.ensures)
+    let room = c.requires.room in
+    let one : a.m ≡ 1 = omega (arith, room) in
+    let wide : a.m * half a.w ≡ half a.w = ap (λ (k : ℕ). k * half a.w) one ∙ one-mul (half a.w) in
+    let reduce = g.R.Reduce.rule a.rule.now in
+    let row = rw (row-long a.w a.above.first a.level.now (omega (arith, room))) at c.check_row.ensures in
+    right-ext _
+    (λ k lt.
+    let few : k < half a.w = omega (arith, lt, room, wide) in
+    held-row reduce a.w a.above.first a.above.second a.level.now k room.0 few
+    ∙ sym (first-row reduce a.w a.above.first a.above.second a.level.now k few))
+    row

@@ -1,10 +1,14 @@
--- `reduce::check_row::check_part` meets its contract: what is made of copies is made of the texels themselves.
+-- `reduce::check_row::check_part` meets its contract: told by the rule, or made and compared.
+use mathlib.Core.Path.{ap, ◌∙◌}
+use native.Mathlib.Nat.{zero-add}
 use native.Mathlib.Omega.{arith}
-use Rattle.rules.specs.Reducing.{reduce_of}
-use Rattle.reduce.proofs.Standing.{part_right}
+use lib.ListN.{get_or}
+use Rattle.reduce.proofs.Standing.{stands-all, right-all, made-right}
 use Rattle.reduce.proofs.check_row.check_part.Goals as goal
 
+pub returns-then-all_right : goal.returns-then-all_right
+returns-then-all_right g c =
+    right-all (stands-all _ (omega arith) (λ k lt. ap (λ i. get_or c.args.c.now i 0) (zero-add k) ∙ c.all_right.ensures c.if-all_right.true k lt))
+
 pub returns : goal.returns
-returns c =
-    let a = c.args in
-    part_right (reduce_of a.kind a.packing) a.w a.r0 a.r1 a.s.now a.made.now _ _ _ (omega arith) (omega arith) (omega arith) c.put.ensures c.put-2.ensures c.write_next.ensures c.alike.ensures
+returns g c = made-right _ _ _ _ (omega arith) c.row.ensures c.alike.ensures

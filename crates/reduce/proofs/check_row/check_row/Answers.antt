@@ -1,18 +1,15 @@
 -- `reduce::check_row::check_row` meets its contract: sources one wide, or wider.
 use mathlib.Core.Path.{◌≡◌}
 use native.Mathlib.Omega.{arith}
-use Rattle.rules.specs.Sizes.{half}
-use Rattle.rules.specs.Reducing.{reduce_of}
-use Rattle.reduce.proofs.Standing.{wide-right}
+use Rattle.reduce.proofs.Rows.{narrow-held}
+use Rattle.reduce.proofs.Standing.{right-ext, wide-right}
 use Rattle.reduce.proofs.check_row.check_row.Goals as goal
 
-pub returns-then-w-lt2 : goal.returns-then-w-lt2
-returns-then-w-lt2 c =
-    let a = c.args in
-    let one : half a.w ≡ 1 = omega arith in
-    rw one c.check_part.ensures
+pub returns-then-a-lt2 : goal.returns-then-a-lt2
+returns-then-a-lt2 g c =
+    right-ext _
+    (λ k lt. let z : k ≡ 0 = omega arith in rw z (narrow-held (g.R.Reduce.rule c.args.rule.now) _ _ c.args.a.now c.args.b.now (omega arith) c.narrow.ensures))
+    c.alike.ensures
 
 pub returns : goal.returns
-returns c =
-    let a = c.args in
-    wide-right (reduce_of a.kind a.packing) a.r0 a.r1 a.s.now (omega arith) c.check_whole.ensures
+returns g c = wide-right (g.R.Reduce.rule _) _ _ _ _ (omega arith) (omega arith) c.check_pairs.ensures

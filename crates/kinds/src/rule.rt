@@ -1,0 +1,38 @@
+// A way to make one texel of four, and a row of such texels from the two rows above.
+ghost use Rattle.std.specs.Prelude.{◌≡◌, true, ℕ, ◌*◌, ◌<◌, ◌≤◌, length, get_or};
+ghost use Rattle.rules.specs.Levels.{tab};
+ghost use Rattle.kinds.specs.Runs.{pair_of};
+
+use crate::channel::{Quad, pairs_at};
+
+pub trait Reduce {
+    // The texel that takes the place of p00, p10, p01, p11.
+    ghost rule: { Self → ℕ → ℕ → ℕ → ℕ → ℕ };
+
+    fn reduced(&self, q: Quad<u32>) -> u32
+        ensures { result ≡ rule self.now q.p00 q.p10 q.p01 q.p11 };
+
+    // Whether `all_right` may answer `true`.
+    fn tells(&self) -> bool {
+        false
+    }
+
+    // Whether c is told to be the row of a and b without a row being made.
+    fn all_right(&self, a: &[u32], b: &[u32], c: &[u32]) -> bool
+        requires few { length c.now < 4294967296 }
+        requires pairs { (2 * length c.now ≤ length a.now) × (2 * length c.now ≤ length b.now) }
+        ensures { (result ≡ true) → (k : ℕ) → k < length c.now → get_or c.now k 0 ≡ pair_of (rule self.now) a.now b.now k }
+    {
+        false
+    }
+}
+
+// A row, each texel made of its pairs of the two rows above.
+pub fn row<R: Reduce>(rule: &R, a: &[u32], b: &[u32], o: &mut [u32])
+    requires { (2 * length o.old ≤ length a.now) × (2 * length o.old ≤ length b.now) }
+    ensures { o.new ≡ tab (length o.old) (pair_of (R.rule rule.now) a.now b.now) }
+{
+    for x in 0..o.len() {
+        o[x] = rule.reduced(pairs_at(x, a, b));
+    }
+}

@@ -1,0 +1,82 @@
+// A level's faces and sides, and where the rows of the next level come from.
+ghost use Rattle.std.specs.Prelude.{◌≡◌, ◌+◌, ◌-◌, ◌*◌, ◌<◌, ◌≤◌, min};
+ghost use Rattle.rules.specs.Sizes.{half};
+ghost use Rattle.reduce.specs.Levels.{Sides, first_row, second_row};
+
+#[derive(Clone, Copy)]
+pub struct Shape {
+    pub faces: usize,
+    pub width: usize,
+    pub height: usize,
+    ghost sides: { Sides faces width height },
+}
+
+// Where the two rows of a level start that a row of the next is made from.
+#[derive(Clone, Copy)]
+pub struct Above {
+    pub first: usize,
+    pub second: usize,
+}
+
+// The next level's side: shifted right by 1, and at least 1.
+pub fn halved(s: usize) -> usize
+    ensures { result ≡ half s }
+{
+    if s < 2 { 1 } else { s / 2 }
+}
+
+// y1 = min(2y + 1, previous height - 1)
+fn second(y: usize, h: usize) -> usize
+    requires { (1 ≤ h) × (y < half h) × (h ≤ 4096) }
+    ensures { result ≡ min (2 * y + 1) (h - 1) }
+{
+    (2 * y + 1).min(h - 1)
+}
+
+impl Shape {
+    pub fn new(faces: usize, width: usize, height: usize) -> Shape
+        requires { Sides faces width height }
+        ensures { (result.faces ≡ faces) × (result.width ≡ width) × (result.height ≡ height) }
+    {
+        Shape {
+            faces,
+            width,
+            height,
+        }
+    }
+
+    // How many texels the level has.
+    pub fn size(self) -> usize
+        ensures { result ≡ self.faces * self.height * self.width }
+    {
+        self.faces * self.height * self.width
+    }
+
+    // The next level's.
+    pub fn next(self) -> Shape
+        ensures { (result.faces ≡ self.faces) × (result.width ≡ half self.width) × (result.height ≡ half self.height) }
+    {
+        Shape {
+            faces: self.faces,
+            width: halved(self.width),
+            height: halved(self.height),
+        }
+    }
+
+    // Those of row y, counted through all faces: rows y0 and y1 of its own face.
+    pub fn rows_above(self, y: usize) -> Above
+        requires { y < 24576 }
+        ensures { (result.first ≡ first_row self.width self.height (half self.height) y) × (result.second ≡ second_row self.width self.height (half self.height) y) }
+    {
+        let w = self.width;
+        let h = self.height;
+        let h2 = halved(h);
+        let top = y / h2 * h;
+        let i = y % h2;
+        let j = second(i, h);
+        Above {
+            first: (top + 2 * i) * w,
+            second: (top + j) * w,
+        }
+    }
+}
