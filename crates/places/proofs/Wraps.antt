@@ -15,7 +15,7 @@ use mir.Syntax.{w32}
 use mir.Val.{to_z, of_z}
 use mir.ValLaws.{to_z_pos}
 use borrow.Author.Tests.{ltb-false}
-use Rattle.rules.specs.declared.Lanes.{Lanes}
+use Rattle.rules.specs.Lanes.{Lanes}
 use Rattle.rules.specs.declared.Mode.{Mode}
 use Rattle.rules.specs.declared.Mode.TheVariants.{Repeat, Clamp, Mirror}
 use Rattle.rules.specs.Floats.{Between, zero32, one32, two32, float}

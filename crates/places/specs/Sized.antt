@@ -1,6 +1,6 @@
 -- What a level must be for its places to be worked out. Definitions only.
 use Rattle.std.specs.Prelude.{ℕ, ◌≤◌, ◌<◌}
-use Rattle.rules.specs.declared.Wholes.{Wholes}
+use Rattle.rules.specs.Lanes.{Wholes}
 use Rattle.rules.specs.declared.Plane.{Plane}
 
 -- up to six faces of sides 1 to 4,096, in a chain that starts as far in as any chain goes

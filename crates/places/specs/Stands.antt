@@ -2,8 +2,8 @@
 use Rattle.std.specs.Prelude.{◌≡◌, ℕ, ◌+◌, ◌*◌, ◌≤◌, pos, nat_abs, ◌+ℤ◌, Float}
 use Rattle.std.specs.Float.{binary32}
 use Rattle.std.specs.Float.Ieee.{sub, of_int}
-use Rattle.rules.specs.declared.Lanes.{Lanes}
-use Rattle.rules.specs.declared.Wholes.{Wholes}
+use Rattle.rules.specs.Lanes.{Lanes}
+use Rattle.rules.specs.Lanes.{Wholes}
 use Rattle.rules.specs.declared.Mode.{Mode}
 use Rattle.rules.specs.Whole.{floor_of}
 use Rattle.rules.specs.Wrapping.{wrap_of}

@@ -7,6 +7,7 @@ ghost use Rattle.rules.proofs.RefusingLookups.{EachLane};
 ghost use Rattle.places.specs.Stands.{Counted, nearests_of, Stands, axes_of};
 
 use crate::wrap::wrap_four;
+use choice::lanes::each;
 use rules::{Lanes, Mode, Wholes};
 
 // Nearest: t = floor(u * width).
@@ -18,17 +19,13 @@ fn nearest_texel(u: f32, width: u32) -> f32
 }
 
 // The texels of the nearest lookup along a side: t of four lanes, wrapped.
+#[tactic(auto, unfolding(crate::specs::Stands::nearests_of, crate::specs::Stands::wraps_of))]
 pub fn nearest_four(mode: Mode, u: Lanes, width: usize) -> Wholes
     requires { EachLane coordinate_taken u × (1 ≤ width) × (width ≤ 4096) }
     ensures { result ≡ nearests_of mode u width }
 {
     let side = width as u32;
-    let t = Lanes {
-        a: nearest_texel(u.a, side),
-        b: nearest_texel(u.b, side),
-        c: nearest_texel(u.c, side),
-        d: nearest_texel(u.d, side),
-    };
+    let t = each(u, |x| nearest_texel(x, side));
     wrap_four(mode, t, side)
 }
 
@@ -63,36 +60,16 @@ fn standing(u: f32, width: u32) -> Stand
 }
 
 // x0 and x1 of four lanes, wrapped; and fx.
+#[tactic(auto, unfolding(crate::specs::Stands::axes_of, crate::specs::Stands::wraps_of, rules::specs::Bilinear::axis_of))]
 pub fn four_axes(mode: Mode, u: Lanes, width: usize) -> Axes
     requires { EachLane coordinate_taken u × (1 ≤ width) × (width ≤ 4096) }
     ensures { result ≡ axes_of mode u width }
 {
     let side = width as u32;
-    let a = standing(u.a, side);
-    let b = standing(u.b, side);
-    let c = standing(u.c, side);
-    let d = standing(u.d, side);
-    let here = Lanes {
-        a: a.here,
-        b: b.here,
-        c: c.here,
-        d: d.here,
-    };
-    let next = Lanes {
-        a: a.next,
-        b: b.next,
-        c: c.next,
-        d: d.next,
-    };
-    let part = Lanes {
-        a: a.part,
-        b: b.part,
-        c: c.part,
-        d: d.part,
-    };
+    let at = each(u, |x| standing(x, side));
     Axes {
-        first: wrap_four(mode, here, side),
-        second: wrap_four(mode, next, side),
-        part,
+        first: wrap_four(mode, each(at, |s| s.here), side),
+        second: wrap_four(mode, each(at, |s| s.next), side),
+        part: each(at, |s| s.part),
     }
 }

@@ -1,0 +1,16 @@
+-- What is true in each of four lanes. Definitions only.
+use Rattle.rules.specs.declared.Four.{Four}
+
+-- of one value a lane
+pub record InEach {T : Type 0} (is : T → Type 0) (of : Four T) : Type 0 where
+  pub a : is of.a
+  pub b : is of.b
+  pub c : is of.c
+  pub d : is of.d
+
+-- of two values a lane
+pub record Beside {T U : Type 0} (is : T → U → Type 0) (of : Four T) (by : Four U) : Type 0 where
+  pub a : is of.a by.a
+  pub b : is of.b by.b
+  pub c : is of.c by.c
+  pub d : is of.d by.d
