@@ -14,3 +14,7 @@ pub record Beside {T U : Type 0} (is : T → U → Type 0) (of : Four T) (by : F
   pub b : is of.b by.b
   pub c : is of.c by.c
   pub d : is of.d by.d
+
+-- what is made of one value a lane
+abbrev pub each_of : {T U : Type 0} → (T → U) → Four T → Four U
+each_of f of = record { a = f of.a; b = f of.b; c = f of.c; d = f of.d }

@@ -15,7 +15,7 @@ pub fn cube_texel(u: f32, width: usize) -> usize
 }
 
 // Lower level l, upper min(l + 1, top), and how far the level lies between them.
-pub fn pairing(fraction: f32, top: usize) -> Pairing
+pub fn pairing(fraction: f32, top: usize) -> Pairing<usize, f32>
     requires { T (finite fraction) × (top ≤ 12) }
     ensures { (result ≡ pairing_of fraction top) × (result.low ≤ top) × (result.high ≤ top) × Between zero32 result.part one32 }
 {

@@ -20,6 +20,7 @@ const LOW: f32 = 0.0000000000000000008673617379884035;
 const HIGH: f32 = 1152921504606846976.0;
 
 // |x|; of -0 it is -0, which compares as 0 does.
+#[tactic(auto, unfolding(rules::specs::Floats::magnitude))]
 fn magnitude(x: f32) -> f32
     ensures { result ≡ magnitude_of x }
 {
@@ -35,6 +36,7 @@ fn sizes_taken(ax: f32, ay: f32, az: f32) -> bool
 }
 
 // 1 for a component >= 0, -0 included, and -1 for one below.
+#[tactic(auto, unfolding(rules::specs::Faces::sign_of))]
 fn sign(x: f32) -> f32
     ensures { result ≡ sign_of x }
 {
@@ -42,6 +44,7 @@ fn sign(x: f32) -> f32
 }
 
 // 0 for a component >= 0, -0 included, and 1 for one below: the odd face.
+#[tactic(auto, unfolding(rules::specs::Faces::odd_of))]
 fn odd(x: f32) -> u32
     ensures { (result ≡ odd_of x) × (result ≤ 1) }
 {
