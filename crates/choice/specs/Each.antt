@@ -18,3 +18,7 @@ pub record Beside {T U : Type 0} (is : T → U → Type 0) (of : Four T) (by : F
 -- what is made of one value a lane
 abbrev pub each_of : {T U : Type 0} → (T → U) → Four T → Four U
 each_of f of = record { a = f of.a; b = f of.b; c = f of.c; d = f of.d }
+
+-- and of two
+abbrev pub each_two : {T U V : Type 0} → (T → U → V) → Four T → Four U → Four V
+each_two f x y = record { a = f x.a y.a; b = f x.b y.b; c = f x.c y.c; d = f x.d y.d }

@@ -9,11 +9,11 @@ ghost use Rattle.lane.specs.Cubes.{lowered_place, AllOnCube, cube_four};
 ghost use Rattle.places.specs.Sized.{Sized};
 
 use crate::plane::lowered;
-use crate::reading::Four;
-use crate::spots::{spot_a, spot_b, spot_c, spot_d};
+use crate::spots::spots_in;
+use choice::lanes::{each, pairs};
 use places::cube::cube_texel;
 use places::place::place;
-use rules::{Plane, Spot, Spots, Wholes};
+use rules::{Four, Plane, Spot, Spots, Wholes};
 
 // The place of the nearest texel on a face.
 pub fn cube_place(p: Plane, s: Spot) -> usize
@@ -34,14 +34,12 @@ fn lowered_place(starts: &[u32], width: u32, height: u32, s: Spot, level: u32) -
 }
 
 // The places of four lanes, each at its own level.
-pub fn cube_places(starts: &[u32], width: u32, height: u32, s: Spots, levels: Wholes) -> Four
+#[tactic(auto, unfolding(crate::specs::Cubes::cube_four))]
+pub fn cube_places(starts: &[u32], width: u32, height: u32, s: Spots, levels: Wholes) -> Four<usize>
     requires { Taken cubemap width height × Started (faces_of cubemap) width height starts.now × AllOnCube s }
     ensures { result ≡ cube_four width height s levels }
 {
-    Four {
-        a: lowered_place(starts, width, height, spot_a(s), levels.a),
-        b: lowered_place(starts, width, height, spot_b(s), levels.b),
-        c: lowered_place(starts, width, height, spot_c(s), levels.c),
-        d: lowered_place(starts, width, height, spot_d(s), levels.d),
-    }
+    each(pairs(spots_in(s), levels), |(s, level)| {
+        lowered_place(starts, width, height, s, level)
+    })
 }

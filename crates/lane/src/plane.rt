@@ -5,7 +5,6 @@ ghost use Rattle.rules.specs.Sizes.{top};
 ghost use Rattle.rules.specs.Places.{plane_of};
 ghost use Rattle.levels.specs.Starts.{Started};
 
-use choice::smaller;
 use levels::sizes::{faces_of, side_at, top_level};
 use rules::Plane;
 
@@ -29,5 +28,5 @@ pub fn lowered(starts: &[u32], width: u32, height: u32, level: u32) -> Plane
     ensures { result ≡ plane_of cubemap width height (min level (top width height)) }
 {
     let top = top_level(width, height);
-    plane(starts, 3, width, height, smaller(level, top))
+    plane(starts, 3, width, height, level.min(top))
 }
