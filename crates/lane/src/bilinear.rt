@@ -3,7 +3,7 @@ ghost use Rattle.std.specs.Prelude.{◌≡◌};
 ghost use Rattle.rules.specs.Lanes.{lanes_of};
 ghost use Rattle.rules.specs.Bilinear.{blend_of};
 ghost use Rattle.rules.proofs.RefusingLookups.{Coordinates};
-ghost use Rattle.places.specs.Sized.{Sized, Below};
+ghost use Rattle.places.specs.Sized.{Below};
 ghost use Rattle.lane.specs.Reading.{squares_at, AllWithin, blended_rgb, blended_alpha};
 
 use crate::pixel::{opacity_four, rgb_four};
@@ -11,21 +11,23 @@ use crate::reading::places;
 use choice::lanes::{each, pairs};
 use places::axis::four_axes;
 use places::blend::{blend, blend_alpha, weigh};
-use rules::{Corners, Directions, Four, Lanes, Mode, Plane, Weights, Wholes};
+use places::place::Level;
+use places::wrap::Wrapping;
+use rules::{Corners, Directions, Four, Lanes, Weights, Wholes};
 
 // The places of four lanes, each on its own face, and the weights: the lanes side by side.
 #[tactic(auto, unfolding(crate::specs::Reading::squares_at))]
-pub fn squares(p: Plane, faces: Wholes, s: Mode, t: Mode, u: Lanes, v: Lanes) -> Corners<Four<usize>, Lanes>
-    requires { Sized p × Below p.faces faces × Coordinates u v }
-    ensures { result ≡ squares_at p faces s t u v }
+pub fn squares(on: Level, faces: Wholes, by: Wrapping, u: Lanes, v: Lanes) -> Corners<Four<usize>, Lanes>
+    requires { Below on.plane.faces faces × Coordinates u v }
+    ensures { result ≡ squares_at on.plane faces by.s by.t u v }
 {
-    let x = four_axes(s, u, p.width);
-    let y = four_axes(t, v, p.height);
+    let x = four_axes(by.s, u, on.plane.width);
+    let y = four_axes(by.t, v, on.plane.height);
     Corners {
-        p00: places(p, faces, x.first, y.first),
-        p10: places(p, faces, x.second, y.first),
-        p01: places(p, faces, x.first, y.second),
-        p11: places(p, faces, x.second, y.second),
+        p00: places(on, faces, x.first, y.first),
+        p10: places(on, faces, x.second, y.first),
+        p01: places(on, faces, x.first, y.second),
+        p11: places(on, faces, x.second, y.second),
         fx: x.part,
         fy: y.part,
     }

@@ -3,9 +3,9 @@
 
 pub mod bilinear;
 pub mod cubemap;
+pub mod level;
 pub mod nearest;
 pub mod pixel;
-pub mod plane;
 pub mod reading;
 pub mod spots;
 pub mod trilinear;

@@ -1,17 +1,18 @@
 // The nearest lookup: the texel at floor(u * width), floor(v * height), wrapped into the level.
 ghost use Rattle.std.specs.Prelude.{◌≡◌};
 ghost use Rattle.rules.proofs.RefusingLookups.{Coordinates};
-ghost use Rattle.places.specs.Sized.{Sized};
 ghost use Rattle.lane.specs.Reading.{nearest_four};
 
 use crate::reading::places;
 use places::axis::nearest_four;
-use rules::{Four, Lanes, Mode, Plane, Wholes};
+use places::place::Level;
+use places::wrap::Wrapping;
+use rules::{Four, Lanes, Wholes};
 
 // The places of four lanes, all on the first face.
-pub fn nearest_places(p: Plane, s: Mode, t: Mode, u: Lanes, v: Lanes) -> Four<usize>
-    requires { Sized p × Coordinates u v }
-    ensures { result ≡ nearest_four p s t u v }
+pub fn nearest_places(on: Level, by: Wrapping, u: Lanes, v: Lanes) -> Four<usize>
+    requires { Coordinates u v }
+    ensures { result ≡ nearest_four on.plane by.s by.t u v }
 {
     let first = Wholes {
         a: 0,
@@ -19,7 +20,7 @@ pub fn nearest_places(p: Plane, s: Mode, t: Mode, u: Lanes, v: Lanes) -> Four<us
         c: 0,
         d: 0,
     };
-    let x = nearest_four(s, u, p.width);
-    let y = nearest_four(t, v, p.height);
-    places(p, first, x, y)
+    let x = nearest_four(by.s, u, on.plane.width);
+    let y = nearest_four(by.t, v, on.plane.height);
+    places(on, first, x, y)
 }

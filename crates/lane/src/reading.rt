@@ -1,19 +1,19 @@
 // The places of four lanes in a level.
 ghost use Rattle.std.specs.Prelude.{◌≡◌};
-ghost use Rattle.places.specs.Sized.{Sized, Below};
+ghost use Rattle.places.specs.Sized.{Below};
 ghost use Rattle.lane.specs.Reading.{places_of};
 
 use choice::lanes::{each, pairs};
-use places::place::place;
-use rules::{Four, Plane, Wholes};
+use places::place::Level;
+use rules::{Four, Wholes};
 
 // Each lane's texel (x, y) on its own face.
 #[tactic(auto, unfolding(crate::specs::Reading::places_of))]
-pub fn places(p: Plane, faces: Wholes, x: Wholes, y: Wholes) -> Four<usize>
-    requires { Sized p × Below p.faces faces × Below p.width x × Below p.height y }
-    ensures { result ≡ places_of p faces x y }
+pub fn places(on: Level, faces: Wholes, x: Wholes, y: Wholes) -> Four<usize>
+    requires { Below on.plane.faces faces × Below on.plane.width x × Below on.plane.height y }
+    ensures { result ≡ places_of on.plane faces x y }
 {
     each(pairs(faces, pairs(x, y)), |(face, (x, y))| {
-        place(p, face as usize, x as usize, y as usize)
+        on.place(face as usize, x as usize, y as usize)
     })
 }

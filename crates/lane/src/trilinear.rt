@@ -1,21 +1,16 @@
 // The trilinear cubemap lookup: two levels, blended by the fraction between them.
 ghost use Rattle.std.specs.Prelude.{◌≡◌, suc, ◌≤◌};
 ghost use Rattle.std.specs.Float.Ieee.Scale.{finite};
-ghost use Rattle.rules.specs.Kinds.{cubemap, faces_of};
 ghost use Rattle.rules.specs.Sizes.{top};
-ghost use Rattle.rules.proofs.Refusing.{Taken};
 ghost use Rattle.rules.proofs.RefusingLookups.{EachLane};
 ghost use Rattle.places.specs.Sized.{Below};
 ghost use Rattle.places.specs.Spots.{OnCube};
-ghost use Rattle.levels.specs.Starts.{Started};
-ghost use Rattle.lane.specs.Cubes.{lowered_place, AllOnCube, cube_four, two_levels, lerp_lanes, lerp_colours};
+ghost use Rattle.lane.specs.Cubes.{AllOnCube, cube_four, two_levels, lerp_lanes, lerp_colours};
 
-use crate::cubemap::cube_place;
-use crate::plane::plane;
-use crate::spots::spots_in;
+use crate::cubemap::Cube;
 use choice::lanes::{each, pairs};
 use places::cube::{lerp, pairing};
-use rules::{Directions, Four, Lanes, Pairing, Spot, Spots, Wholes};
+use rules::{Directions, Four, Lanes, Pairing, Spots, Wholes};
 
 // The two levels of four lanes' fractional levels, and how far each lane lies between its two.
 #[tactic(auto, unfolding(crate::specs::Cubes::two_levels))]
@@ -31,33 +26,14 @@ pub fn two_levels(levels: Lanes, top: usize) -> Pairing<Wholes, Lanes>
     }
 }
 
-// Where a lane reads a level of the picture: no level is lowered.
-fn level_place(starts: &[u32], width: u32, height: u32, s: Spot, level: u32) -> usize
-    requires { Taken cubemap width height × Started (faces_of cubemap) width height starts.now × OnCube s × (level ≤ top width height) }
-    ensures { result ≡ lowered_place width height s level }
-{
-    cube_place(plane(starts, 3, width, height, level), s)
-}
-
-// The places of four lanes at levels of the picture.
-#[tactic(auto, unfolding(crate::specs::Cubes::cube_four))]
-fn level_four(starts: &[u32], width: u32, height: u32, s: Spots, levels: Wholes) -> Four<usize>
-    requires { Taken cubemap width height × Started (faces_of cubemap) width height starts.now × AllOnCube s × Below (suc (top width height)) levels }
-    ensures { result ≡ cube_four width height s levels }
-{
-    each(pairs(spots_in(s), levels), |(s, level)| {
-        level_place(starts, width, height, s, level)
-    })
-}
-
-// The places of a trilinear lookup, at the lower levels and at the upper ones.
-pub fn level_places(starts: &[u32], width: u32, height: u32, s: Spots, m: Pairing<Wholes, Lanes>) -> Pairing<Four<usize>, Lanes>
-    requires { Taken cubemap width height × Started (faces_of cubemap) width height starts.now × AllOnCube s × Below (suc (top width height)) m.low × Below (suc (top width height)) m.high }
-    ensures { result ≡ record { low = cube_four width height s m.low; high = cube_four width height s m.high; part = m.part } }
+// Where four lanes read, at the lower levels and at the upper ones.
+pub fn level_places(cube: Cube, s: Spots, m: Pairing<Wholes, Lanes>) -> Pairing<Four<usize>, Lanes>
+    requires { AllOnCube s × Below (suc (top cube.layout.now.picture.width cube.layout.now.picture.height)) m.low × Below (suc (top cube.layout.now.picture.width cube.layout.now.picture.height)) m.high }
+    ensures { result ≡ record { low = cube_four cube.layout.now.picture.width cube.layout.now.picture.height s m.low; high = cube_four cube.layout.now.picture.width cube.layout.now.picture.height s m.high; part = m.part } }
 {
     Pairing {
-        low: level_four(starts, width, height, s, m.low),
-        high: level_four(starts, width, height, s, m.high),
+        low: cube.places(s, m.low),
+        high: cube.places(s, m.high),
         part: m.part,
     }
 }
