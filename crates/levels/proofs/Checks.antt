@@ -1,5 +1,6 @@
 -- The code of a level's verdict goes by what is right behind the level before, counted from there; the definition by places in the
 -- chain. Both are the same texels, since a level starts where the one before ends. Assumes nothing.
+use Rattle.std.specs.Prelude.{None, Some}
 use mathlib.Core.Path.{◌≡◌, refl, sym, ap, ◌∙◌}
 use mathlib.Core.Bool.{true, false}
 use mathlib.Core.List.{List}
@@ -11,7 +12,6 @@ use borrow.Author.Tests.{eq-eqb, ne_eqb}
 use lib.ListN.{length, get_or, take, drop, length-drop}
 use lib.Seq.{get_or-drop}
 use Rattle.rules.specs.declared.Packing.{Packing}
-use Rattle.rules.specs.declared.Verdict.TheVariants.{Follows, WrongAt}
 use Rattle.rules.specs.Kinds.{faces_of}
 use Rattle.rules.specs.Sizes.{side_at, half, top, size_at, start, count}
 use Rattle.rules.specs.Levels.{next}
@@ -24,7 +24,6 @@ use Rattle.rules.proofs.Checks.{first-none, first_some, due-at}
 use Rattle.kinds.proofs.Runs.{over-within}
 use Rattle.reduce.specs.Levels.{Sides}
 use Rattle.reduce.specs.Right.{Right}
-use Rattle.levels.specs.Verdicts.{verdicts_from}
 
 -- what `check_next` asks of a picture that is taken
 pub sides-of : {kind w h n : ℕ} → Chained kind w h n → Sides (faces_of kind) w h
@@ -78,19 +77,19 @@ module _ (reduce : ℕ → ℕ → ℕ → ℕ → ℕ) (faces w h m : ℕ) (l :
       let e : start faces w h (suc m) + (k - start faces w h (suc m)) ≡ k = omega arith in
       rw e at (right-before (k - start faces w h (suc m)) (omega arith))
 
-  follows-at : size_at faces w h (suc m) ≤ r → Follows ≡ level_verdict reduce faces w h l (suc m)
+  follows-at : size_at faces w h (suc m) ≤ r → None ≡ level_verdict reduce faces w h l (suc m)
   unfolding level_verdict
   follows-at le = sym (first-none _ _ _ (λ k from lt. all-before k from (omega arith)))
 
-  wrong-place : r < size_at faces w h (suc m) → WrongAt (start faces w h (suc m) + r) ≡ level_verdict reduce faces w h l (suc m)
+  wrong-place : r < size_at faces w h (suc m) → Some (start faces w h (suc m) + r) ≡ level_verdict reduce faces w h l (suc m)
   unfolding level_verdict
   wrong-place lt = sym (first_some _ _ _ _ (omega arith) (omega arith) (wrong-at lt) all-before)
 
 -- the same of the code's own values: r is what `check_next` answered
 pub judged : (reduce : ℕ → ℕ → ℕ → ℕ → ℕ) (faces w h level : ℕ) (l : List ℕ) (r : ℕ) → 1 ≤ level → Behind faces w h level (length l)
     → Right (faces * side_at (level - 1) h * side_at (level - 1) w) (drop (start faces w h (level - 1)) l) (faces * half (side_at (level - 1) h) * half (side_at (level - 1) w)) (λ k. get_or (next reduce faces (side_at (level - 1) w) (side_at (level - 1) h) (take (faces * side_at (level - 1) h * side_at (level - 1) w) (drop (start faces w h (level - 1)) l))) k 0) r
-    → (start faces w h level + r < start faces w h (level + 1) → WrongAt (start faces w h level + r) ≡ level_verdict reduce faces w h l level)
-    × (start faces w h (level + 1) ≤ start faces w h level + r → Follows ≡ level_verdict reduce faces w h l level)
+    → (start faces w h level + r < start faces w h (level + 1) → Some (start faces w h level + r) ≡ level_verdict reduce faces w h l level)
+    × (start faces w h (level + 1) ≤ start faces w h level + r → None ≡ level_verdict reduce faces w h l level)
 unfolding size_at standing
 judged reduce faces w h zero l r some b t = absurd (omega arith)
 judged reduce faces w h (suc m) l r some b t =
@@ -99,35 +98,3 @@ judged reduce faces w h (suc m) l r some b t =
     let end : start faces w h (suc m + 1) ≡ start faces w h (suc m) + size_at faces w h (suc m) = rw (add-one (suc m)) (start-suc faces w h (suc m)) in
     let room : start faces w h (suc m) ≤ length l = let i = b.inside in omega arith in
     (λ lt. wrong-place reduce faces w h m l r room u (omega (arith, end)), λ le. follows-at reduce faces w h m l r room u (omega (arith, end)))
-
--- ---- the verdicts of some levels, from level a on
-
-module _ (reduce : ℕ → ℕ → ℕ → ℕ → ℕ) (faces w h : ℕ) (l : List ℕ) where
-  pub from_more : (a n : ℕ) → verdicts_from reduce faces w h l a n ≡ Follows → verdicts_from reduce faces w h l a (suc n) ≡ level_verdict reduce faces w h l (a + n)
-  unfolding verdicts_from
-  from_more a n e = rw e
-
-  -- a wrong place stays the verdict, whatever stands above
-  pub from-stop : (a n k p : ℕ) → verdicts_from reduce faces w h l a n ≡ WrongAt p → verdicts_from reduce faces w h l a (n + k) ≡ WrongAt p
-  unfolding verdicts_from
-  from-stop a n zero p e = rw (add-zero n) e
-  from-stop a n (suc k) p e = rw (add-suc n k, from-stop a n k p e)
-
-  from_all : (n : ℕ) → verdicts_from reduce faces w h l 0 n ≡ levels_verdict reduce faces w h l n
-  unfolding verdicts_from levels_verdict
-  from_all zero = refl
-  from_all (suc n) = rw (from_all n, zero-add n)
-
-  from_one : (a : ℕ) → verdicts_from reduce faces w h l a 1 ≡ level_verdict reduce faces w h l a
-  unfolding verdicts_from
-  from_one a = ap (level_verdict reduce faces w h l) (add-zero a)
-
--- all levels
-pub from-chain : (kind : ℕ) (packing : Packing) (w h : ℕ) (l : List ℕ) → verdicts_from (reduce_of kind packing) (faces_of kind) w h l 0 (top w h + 1) ≡ chain_verdict_of kind packing w h l
-unfolding chain_verdict_of
-from-chain kind packing w h l = rw (add-one (top w h)) (from_all (reduce_of kind packing) (faces_of kind) w h l (suc (top w h)))
-
--- one level
-pub from-level : (kind : ℕ) (packing : Packing) (w h : ℕ) (l : List ℕ) (m : ℕ) → verdicts_from (reduce_of kind packing) (faces_of kind) w h l m 1 ≡ level_verdict_of kind packing w h l m
-unfolding level_verdict_of
-from-level kind packing w h l m = from_one (reduce_of kind packing) (faces_of kind) w h l m

@@ -1,7 +1,5 @@
-pub mod Passing
 pub mod Starts
 pub mod Walks
-pub mod Viewing
 pub mod Rows
 pub mod Cuts
 pub mod Crosses

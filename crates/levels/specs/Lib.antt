@@ -1,4 +1,4 @@
 pub mod Cuts
 pub mod Crosses
 pub mod Starts
-pub mod Verdicts
+pub mod Pictures

@@ -2,30 +2,32 @@
 ghost use Rattle.std.specs.Prelude.{◌≡◌};
 ghost use Rattle.rules.specs.Answers.{chain_answer, chain_leaves};
 
-use crate::packing::packing_code;
-use crate::refusals::chain_refusal;
-use crate::sizes::{count_of, faces_of, top_level};
+use crate::lent::{Lent, lent_chain};
 use reduce::chain::fill;
-use rules::{Filled, PackingCode};
+use rules::Refusal;
 
 // Fills the levels after level 0, each made from the one before by the packing mode, and answers how many texels the chain has.
-pub fn generate_mipmaps(kind: u32, width: u32, height: u32, mode: u32, texels: &mut [u32]) -> Filled
+#[tactic(auto, using(rules::proofs::Answering::answer_or, rules::proofs::Answering::answer_as, rules::proofs::Answering::leaves_as), unfolding(rules::specs::Answers::chain_answer, rules::specs::Answers::chain_leaves))]
+pub fn generate_mipmaps(
+    kind: u32,
+    width: u32,
+    height: u32,
+    mode: u32,
+    texels: &mut [u32],
+) -> Result<usize, Refusal>
     ensures answer { result ≡ chain_answer kind width height mode texels.old }
     ensures leaves { texels.new ≡ chain_leaves kind width height mode texels.old }
 {
-    let refusal = chain_refusal(kind, width, height, texels.len());
-    if refusal != 0 {
-        return Filled::Refused(refusal);
-    }
-    match packing_code(mode) {
-        PackingCode::By(packing) => {
-            let faces = faces_of(kind);
-            let w = width as usize;
-            let h = height as usize;
-            let levels = (top_level(width, height) as usize) + 1;
-            fill(kind, packing, faces, w, h, levels, texels);
-            Filled::Texels(count_of(faces, width, height))
-        }
-        PackingCode::Refused(n) => Filled::Refused(n),
-    }
+    let Lent { picture, packing } = lent_chain(kind, width, height, mode, texels.len())?;
+    let levels = (picture.top_level() as usize) + 1;
+    fill(
+        picture.kind.code(),
+        packing,
+        picture.kind.faces(),
+        picture.width as usize,
+        picture.height as usize,
+        levels,
+        texels,
+    );
+    Ok(picture.count())
 }

@@ -1,106 +1,72 @@
-// Another tool's chain, judged: each level given the level before it, as they stand in the lent buffer.
+// Another tool's chain, judged: each level given the level before it, as they stand in the lent buffer. A verdict is the first wrong
+// texel's place, and none where all follow.
 ghost use Rattle.std.specs.Prelude.{◌≡◌, ◌+◌, ◌≤◌, length};
-ghost use Rattle.rules.specs.Kinds.{faces_of};
+ghost use Rattle.rules.specs.Kinds.{faces_of, code_of};
 ghost use Rattle.rules.specs.Sizes.{top, count};
 ghost use Rattle.rules.specs.Reducing.{reduce_of};
 ghost use Rattle.rules.specs.Checks.{level_verdict_of, chain_verdict_of};
 ghost use Rattle.rules.specs.Answers.{check_chain_answer, check_level_answer};
-ghost use Rattle.reduce.specs.Levels.{Sides};
-ghost use Rattle.levels.specs.Verdicts.{verdicts_from};
 
-use crate::packing::packing_code;
-use crate::refusals::{chain_refusal, level_refusal};
-use crate::sizes::{faces_of, side_at, start_of, top_level};
+use crate::lent::{Lent, lent_chain};
+use crate::picture::Picture;
 use reduce::check_level::check_next;
-use rules::{Checked, Packing, PackingCode, Verdict};
+use rules::{Packing, Refusal};
 
-// One level's verdict: the first wrong texel's place. Level 0 always follows.
-fn level_verdict(
-    kind: u32,
-    packing: Packing,
-    width: u32,
-    height: u32,
-    level: u32,
-    texels: &[u32],
-) -> Verdict
-    requires { Sides (faces_of kind) width height × (count (faces_of kind) width height ≤ length texels.now) × (level ≤ top width height) }
-    ensures { result ≡ level_verdict_of kind packing width height texels.now level }
+// One level's verdict. Level 0 always follows.
+fn level_verdict(picture: Picture, packing: Packing, texels: &[u32], level: u32) -> Option<usize>
+    requires { (count (faces_of (code_of picture.kind)) picture.width picture.height ≤ length texels.now) × (level ≤ top picture.width picture.height) }
+    ensures { result ≡ level_verdict_of (code_of picture.kind) packing picture.width picture.height texels.now level }
 {
     if level < 1 {
-        return Verdict::Follows;
+        return None;
     }
-    let faces = faces_of(kind);
-    let w = side_at(width, level - 1) as usize;
-    let h = side_at(height, level - 1) as usize;
-    let before = start_of(faces, width, height, level - 1);
-    let start = start_of(faces, width, height, level);
-    let end = start_of(faces, width, height, level + 1);
-    let place = start + check_next(kind, packing, faces, w, h, &texels[before..]);
-    if place < end {
-        Verdict::WrongAt(place)
-    } else {
-        Verdict::Follows
-    }
-}
-
-// The first of the verdicts of n levels, from level `first` on.
-fn levels_verdict(
-    kind: u32,
-    packing: Packing,
-    width: u32,
-    height: u32,
-    first: u32,
-    n: u32,
-    texels: &[u32],
-) -> Verdict
-    requires { Sides (faces_of kind) width height × (count (faces_of kind) width height ≤ length texels.now) × (first + n ≤ top width height + 1) }
-    ensures { result ≡ verdicts_from (reduce_of kind packing) (faces_of kind) width height texels.now first n }
-{
-    let mut k = 0u32;
-    while k < n {
-        let level = first + k;
-        let verdict = level_verdict(kind, packing, width, height, level, texels);
-        let Verdict::Follows = verdict else {
-            return verdict;
-        };
-        k += 1;
-    }
-    Verdict::Follows
+    let w = picture.width_at(level - 1) as usize;
+    let h = picture.height_at(level - 1) as usize;
+    let before = picture.start_of(level - 1);
+    let start = picture.start_of(level);
+    let end = picture.start_of(level + 1);
+    let place = start
+        + check_next(
+            picture.kind.code(),
+            packing,
+            picture.kind.faces(),
+            w,
+            h,
+            &texels[before..],
+        );
+    if place < end { Some(place) } else { None }
 }
 
 // The whole chain's: the first of its levels' verdicts.
-fn chain_verdict(kind: u32, packing: Packing, width: u32, height: u32, texels: &[u32]) -> Verdict
-    requires { Sides (faces_of kind) width height × (count (faces_of kind) width height ≤ length texels.now) }
-    ensures { result ≡ chain_verdict_of kind packing width height texels.now }
+fn chain_verdict(picture: Picture, packing: Packing, texels: &[u32]) -> Option<usize>
+    requires { count (faces_of (code_of picture.kind)) picture.width picture.height ≤ length texels.now }
+    ensures { result ≡ chain_verdict_of (code_of picture.kind) packing picture.width picture.height texels.now }
 {
-    levels_verdict(
-        kind,
-        packing,
-        width,
-        height,
-        0,
-        top_level(width, height) + 1,
-        texels,
-    )
+    for level in 0..picture.top_level() + 1 {
+        if let Some(place) = level_verdict(picture, packing, texels, level) {
+            return Some(place);
+        }
+    }
+    None
 }
 
 // Whether every level of a chain follows from the one before by the packing mode; else the first wrong texel's place.
-pub fn check_chain(kind: u32, width: u32, height: u32, mode: u32, texels: &[u32]) -> Checked
+#[tactic(auto, using(rules::proofs::Answering::answer_or, rules::proofs::Answering::answer_as), unfolding(rules::specs::Answers::check_chain_answer))]
+pub fn check_chain(
+    kind: u32,
+    width: u32,
+    height: u32,
+    mode: u32,
+    texels: &[u32],
+) -> Result<Option<usize>, Refusal>
     ensures answer { result ≡ check_chain_answer kind width height mode texels.now }
 {
-    let refusal = chain_refusal(kind, width, height, texels.len());
-    if refusal != 0 {
-        return Checked::Refused(refusal);
-    }
-    match packing_code(mode) {
-        PackingCode::By(packing) => Checked::Of(chain_verdict(
-            kind, packing, width, height, texels,
-        )),
-        PackingCode::Refused(n) => Checked::Refused(n),
-    }
+    let Lent { picture, packing } = lent_chain(kind, width, height, mode, texels.len())?;
+    Ok(chain_verdict(picture, packing, texels))
 }
 
 // The same of one level.
+#[tactic(auto, using(rules::proofs::Answering::answer_or, rules::proofs::Answering::answer_as), unfolding(rules::specs::Refusals::check_level_refusal, rules::specs::Answers::check_level_answer))]
 pub fn check_level(
     kind: u32,
     width: u32,
@@ -108,21 +74,10 @@ pub fn check_level(
     mode: u32,
     texels: &[u32],
     level: u32,
-) -> Checked
+) -> Result<Option<usize>, Refusal>
     ensures answer { result ≡ check_level_answer kind width height mode texels.now level }
 {
-    let refusal = chain_refusal(kind, width, height, texels.len());
-    if refusal != 0 {
-        return Checked::Refused(refusal);
-    }
-    let of_level = level_refusal(width, height, level);
-    match packing_code(mode) {
-        PackingCode::By(packing) => {
-            if of_level != 0 {
-                return Checked::Refused(of_level);
-            }
-            Checked::Of(level_verdict(kind, packing, width, height, level, texels))
-        }
-        PackingCode::Refused(n) => Checked::Refused(n),
-    }
+    let Lent { picture, packing } = lent_chain(kind, width, height, mode, texels.len())?;
+    picture.check_level(level)?;
+    Ok(level_verdict(picture, packing, texels, level))
 }

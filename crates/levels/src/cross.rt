@@ -2,13 +2,12 @@
 ghost use Rattle.std.specs.Prelude.{◌≡◌, ◌+◌, ◌*◌, ◌<◌, ◌≤◌, length};
 ghost use Rattle.rules.specs.Cross.{cross_width, cross_height, column_of, row_of};
 ghost use Rattle.rules.specs.Refusals.{cross_sides_refusal, cross_refusal};
-ghost use Rattle.rules.specs.Answers.{cross_answer, cross_leaves};
+ghost use Rattle.rules.specs.Answers.{told, cross_answer, cross_leaves};
 ghost use Rattle.kinds.specs.Runs.{over};
 ghost use Rattle.levels.specs.Crosses.{bytes_at, cross_cell};
 
-use crate::refusals::{buffer_refusal, sides_taken};
-use choice::or_else;
-use rules::Filled;
+use crate::refusals::{check_room, sides_taken};
+use rules::Refusal;
 use texel::bytes::rgba;
 
 // A face's place in the cross, its column in faces: 2 0 1 1 1 3.
@@ -35,29 +34,27 @@ fn row_of(face: usize) -> usize
 }
 
 // 10: a cross whose face sides fall outside 1 to 4,096.
-fn cross_sides_refusal(width: u32, height: u32) -> u32
-    ensures { result ≡ cross_sides_refusal width height }
+#[tactic(auto, unfolding(rules::specs::Refusals::cross_sides_refusal, rules::specs::Refusals::refusal_of, rules::specs::Answers::answer))]
+fn check_cross_sides(width: u32, height: u32) -> Result<(), Refusal>
+    ensures { result ≡ told (cross_sides_refusal width height) }
 {
     if sides_taken(width / 4, height / 3) {
-        0
+        Ok(())
     } else {
-        10
+        Err(Refusal::CrossOutside)
     }
 }
 
 // 10, 3: width x height x 4 bytes in, six faces out.
-fn cross_refusal(width: u32, height: u32, bytes: usize, faces: usize) -> u32
-    ensures { result ≡ cross_refusal width height bytes faces }
+#[tactic(auto, using(rules::proofs::Answering::answer_or), unfolding(rules::specs::Refusals::cross_refusal))]
+fn check_cross(width: u32, height: u32, bytes: usize, faces: usize) -> Result<(), Refusal>
+    ensures { result ≡ told (cross_refusal width height bytes faces) }
 {
-    let of_sides = cross_sides_refusal(width, height);
-    if of_sides != 0 {
-        return of_sides;
-    }
+    check_cross_sides(width, height)?;
     let w = width as usize;
     let h = height as usize;
-    let of_bytes = buffer_refusal(h * w * 4, bytes);
-    let of_faces = buffer_refusal(6 * (h / 3) * (w / 4), faces);
-    or_else(of_bytes, of_faces)
+    check_room(h * w * 4, bytes)?;
+    check_room(6 * (h / 3) * (w / 4), faces)
 }
 
 // Texel i of a picture of bytes.
@@ -75,10 +72,8 @@ fn put_bytes(n: usize, from: usize, bytes: &[u8], to: usize, faces: &mut [u32])
     requires faces_room { to + n ≤ length faces.old }
     ensures { faces.new ≡ over to faces.old n (λ x. bytes_at bytes.now (from + x)) }
 {
-    let mut x = 0;
-    while x < n {
+    for x in 0..n {
         faces[to + x] = bytes_at(from + x, bytes);
-        x += 1;
     }
 }
 
@@ -92,26 +87,22 @@ fn write_faces(width: usize, height: usize, bytes: &[u8], faces: &mut [u32])
     let w = width / 4;
     let h = height / 3;
     let rows = 6 * h;
-    let mut y = 0;
-    while y < rows {
+    for y in 0..rows {
         let face = y / h;
         let row = row_of(face) * h + y % h;
         put_bytes(w, row * width + column_of(face) * w, bytes, y * w, faces);
-        y += 1;
     }
 }
 
 // Cuts the six faces out of a cross, and answers the texels written.
-pub fn cut_cross(width: u32, height: u32, bytes: &[u8], faces: &mut [u32]) -> Filled
+#[tactic(auto, using(rules::proofs::Answering::answer_as, rules::proofs::Answering::leaves_as), unfolding(rules::specs::Answers::cross_answer, rules::specs::Answers::cross_leaves))]
+pub fn cut_cross(width: u32, height: u32, bytes: &[u8], faces: &mut [u32]) -> Result<usize, Refusal>
     ensures answer { result ≡ cross_answer width height bytes.now faces.old }
     ensures leaves { faces.new ≡ cross_leaves width height bytes.now faces.old }
 {
-    let refusal = cross_refusal(width, height, bytes.len(), faces.len());
-    if refusal != 0 {
-        return Filled::Refused(refusal);
-    }
+    check_cross(width, height, bytes.len(), faces.len())?;
     let w = width as usize;
     let h = height as usize;
     write_faces(w, h, bytes, faces);
-    Filled::Texels(6 * (h / 3) * (w / 4))
+    Ok(6 * (h / 3) * (w / 4))
 }

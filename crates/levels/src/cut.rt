@@ -2,15 +2,14 @@
 ghost use Rattle.std.specs.Prelude.{◌≡◌, ◌+◌, ◌*◌, ◌≤◌, length};
 ghost use Rattle.rules.specs.Cuts.{aligned};
 ghost use Rattle.rules.specs.Refusals.{cut_refusal, cut_call_refusal};
-ghost use Rattle.rules.specs.Answers.{cut_answer, cut_leaves};
+ghost use Rattle.rules.specs.Answers.{told, cut_answer, cut_leaves};
 ghost use Rattle.kinds.specs.Runs.{over};
 ghost use Rattle.levels.specs.Cuts.{along, cut_cell};
 
-use crate::refusals::{buffer_refusal, no_cubemap_refusal, picture_refusal};
-use crate::sizes::faces_of;
-use choice::or_else;
+use crate::picture::Picture;
+use crate::refusals::check_room;
 use reduce::row::put;
-use rules::{Filled, Pair};
+use rules::{Pair, Refusal};
 
 // n is a multiple of 2^order.
 fn multiple(order: u32, n: u32) -> bool
@@ -35,21 +34,24 @@ fn along(order: u32, side: u32, corner: u32, part: u32) -> bool
 }
 
 // 11: cut order above 12, a side 0, corner or side not a multiple of 2^order, or not wholly inside.
-fn place_refusal(order: u32, width: u32, height: u32, corner: Pair, sides: Pair) -> u32
-    ensures { result ≡ cut_refusal order width height corner sides }
+fn check_place(order: u32, picture: Picture, corner: Pair, sides: Pair) -> Result<(), Refusal>
+    ensures { result ≡ told (cut_refusal order picture.width picture.height corner sides) }
 {
     if 12 < order {
-        return 11;
+        return Err(Refusal::CutOutside);
     }
-    if along(order, width, corner.x, sides.x) && along(order, height, corner.y, sides.y) {
-        0
+    if along(order, picture.width, corner.x, sides.x)
+        && along(order, picture.height, corner.y, sides.y)
+    {
+        Ok(())
     } else {
-        11
+        Err(Refusal::CutOutside)
     }
 }
 
 // 1, 2, 3 (source), 8, 11, 3 (target): level 0 of each.
-fn cut_refusal(
+#[tactic(auto, using(rules::proofs::Answering::answer_or), unfolding(rules::specs::Refusals::cut_call_refusal))]
+fn check_cut(
     kind: u32,
     width: u32,
     height: u32,
@@ -58,20 +60,14 @@ fn cut_refusal(
     corner: Pair,
     sides: Pair,
     target: usize,
-) -> u32
-    ensures { result ≡ cut_call_refusal kind width height source order corner sides target }
+) -> Result<(), Refusal>
+    ensures { result ≡ told (cut_call_refusal kind width height source order corner sides target) }
 {
-    let of_picture = picture_refusal(kind, width, height);
-    if of_picture != 0 {
-        return of_picture;
-    }
-    let level0 = faces_of(kind) * (height as usize) * (width as usize);
-    let part = (sides.y as usize) * (sides.x as usize);
-    let of_source = buffer_refusal(level0, source);
-    let of_kind = no_cubemap_refusal(kind);
-    let of_place = place_refusal(order, width, height, corner, sides);
-    let of_target = buffer_refusal(part, target);
-    or_else(of_source, or_else(of_kind, or_else(of_place, of_target)))
+    let picture = Picture::new(kind, width, height)?;
+    check_room(picture.level0(), source)?;
+    picture.check_no_cubemap()?;
+    check_place(order, picture, corner, sides)?;
+    check_room((sides.y as usize) * (sides.x as usize), target)
 }
 
 // Writes the cut's rows one after the other. The source's level 0 is w wide.
@@ -85,15 +81,14 @@ fn write_cut(w: usize, corner: Pair, sides: Pair, source: &[u32], target: &mut [
     let top = corner.y as usize;
     let across = sides.x as usize;
     let rows = sides.y as usize;
-    let mut y = 0;
-    while y < rows {
+    for y in 0..rows {
         let from = (top + y) * w + x;
         put(across, y * across, &source[from..], target);
-        y += 1;
     }
 }
 
 // Cuts a part out of a picture's level 0, to stand as level 0 in the target, and answers the texels written.
+#[tactic(auto, using(rules::proofs::Answering::answer_as, rules::proofs::Answering::leaves_as), unfolding(rules::specs::Answers::cut_answer, rules::specs::Answers::cut_leaves))]
 pub fn cut(
     kind: u32,
     width: u32,
@@ -103,11 +98,11 @@ pub fn cut(
     corner: Pair,
     sides: Pair,
     target: &mut [u32],
-) -> Filled
+) -> Result<usize, Refusal>
     ensures answer { result ≡ cut_answer kind width height source.now order corner sides target.old }
     ensures leaves { target.new ≡ cut_leaves kind width height source.now order corner sides target.old }
 {
-    let refusal = cut_refusal(
+    check_cut(
         kind,
         width,
         height,
@@ -116,10 +111,7 @@ pub fn cut(
         corner,
         sides,
         target.len(),
-    );
-    if refusal != 0 {
-        return Filled::Refused(refusal);
-    }
+    )?;
     write_cut(width as usize, corner, sides, source, target);
-    Filled::Texels((sides.y as usize) * (sides.x as usize))
+    Ok((sides.y as usize) * (sides.x as usize))
 }

@@ -1,14 +1,42 @@
 // The level view: the level itself, as part of the caller's texels; of a cubemap one face of it.
-ghost use Rattle.std.specs.Prelude.{◌≡◌, length};
+ghost use Rattle.std.specs.Prelude.{◌≡◌, ◌+◌, ◌≤◌, length, IfOk};
 ghost use Rattle.rules.specs.Refusals.{view_refusal};
-ghost use Rattle.rules.specs.Answers.{view_answer};
+ghost use Rattle.rules.specs.Answers.{done, told, view_answer};
+ghost use Rattle.levels.specs.Pictures.{IsFace};
 
-use crate::refusals::{chain_refusal, face_refusal, level_refusal};
-use crate::sizes::level_sizes;
-use choice::or_else;
-use rules::Sizes;
+use crate::layout::Layout;
+use rules::Refusal;
 
-// The refusal number of the level view, or 0 where the view is given: 1, 2, 3, 8, 6.
+// Where one face of a level stands.
+#[derive(Clone, Copy)]
+pub struct Face {
+    pub start: usize,
+    pub size: usize,
+}
+
+// The face that is viewed, within n texels: 1, 2, 3, 8, 6.
+#[tactic(auto, using(rules::proofs::Answering::answer_or), unfolding(rules::specs::Refusals::view_refusal))]
+pub fn face_of(
+    kind: u32,
+    width: u32,
+    height: u32,
+    n: usize,
+    level: u32,
+    face: u32,
+) -> Result<Face, Refusal>
+    ensures told { done result ≡ told (view_refusal kind width height n level face) }
+    ensures is { IfOk result (λ r. IsFace kind width height level face r × (r.start + r.size ≤ n)) }
+{
+    let layout = Layout::new(kind, width, height, n)?;
+    let picture = layout.picture;
+    picture.check_face(face)?;
+    picture.check_level(level)?;
+    let size = (picture.height_at(level) as usize) * (picture.width_at(level) as usize);
+    let start = layout.plane(level).start + (face as usize) * size;
+    Ok(Face { start, size })
+}
+
+// Why the level view is refused, where it is.
 pub fn level_view_refusal(
     kind: u32,
     width: u32,
@@ -16,13 +44,11 @@ pub fn level_view_refusal(
     texels: &[u32],
     level: u32,
     face: u32,
-) -> u32
-    ensures answer { result ≡ view_refusal kind width height (length texels.now) level face }
+) -> Result<(), Refusal>
+    ensures answer { result ≡ told (view_refusal kind width height (length texels.now) level face) }
 {
-    let of_chain = chain_refusal(kind, width, height, texels.len());
-    let of_face = face_refusal(kind, face);
-    let of_level = level_refusal(width, height, level);
-    or_else(of_chain, or_else(of_face, of_level))
+    face_of(kind, width, height, texels.len(), level, face)?;
+    Ok(())
 }
 
 // The texels of one face of a level, and an empty part where it refuses.
@@ -36,20 +62,8 @@ pub fn level_view<'a>(
 ) -> &'a [u32]
     ensures answer { result.now ≡ view_answer kind width height texels.now level face }
 {
-    if level_view_refusal(kind, width, height, texels, level, face) != 0 {
-        return &texels[0..0];
+    match face_of(kind, width, height, texels.len(), level, face) {
+        Ok(found) => &texels[found.start..found.start + found.size],
+        Err(_) => &texels[0..0],
     }
-    let Sizes::Level {
-        start,
-        width: w,
-        height: h,
-        total: _,
-    } = level_sizes(kind, width, height, level)
-    else {
-        return &texels[0..0];
-    };
-    let size = (h as usize) * (w as usize);
-    let from = start + (face as usize) * size;
-    let end = from + size;
-    &texels[from..end]
 }

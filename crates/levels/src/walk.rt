@@ -1,11 +1,12 @@
 // Where every level of a chain starts, in one walk over its levels.
 ghost use Rattle.std.specs.Prelude.{◌≡◌, ◌+◌, ◌≤◌, length};
+ghost use Rattle.rules.specs.Kinds.{faces_of, code_of};
 ghost use Rattle.rules.specs.Sizes.{side_at, top, start, count};
 ghost use Rattle.kinds.specs.Runs.{over};
 ghost use Rattle.reduce.specs.Levels.{Sides};
 ghost use Rattle.levels.specs.Starts.{Walked};
 
-use choice::{larger, smaller};
+use crate::picture::Picture;
 
 // How far a walk is: the next level, where it starts, and the larger side there, 0 above the top level.
 #[derive(Clone, Copy)]
@@ -54,11 +55,21 @@ fn walk_all(faces: u32, small: u32, large: u32, starts: &mut [u32]) -> u32
     at
 }
 
-// Writes the starts of the levels in their order, and answers the whole chain's texels.
-pub fn starts_of(faces: u32, width: u32, height: u32, starts: &mut [u32]) -> u32
-    requires { Sides faces width height × (13 ≤ length starts.old) }
-    ensures total { result ≡ count faces width height }
-    ensures leaves { starts.new ≡ over 0 starts.old (top width height + 1) (start faces width height) }
+// Writes the starts of a picture's levels in their order, and answers the whole chain's texels.
+pub fn starts_of(picture: Picture, starts: &mut [u32]) -> u32
+    requires { 13 ≤ length starts.old }
+    ensures total { result ≡ count (faces_of (code_of picture.kind)) picture.width picture.height }
+    ensures leaves { starts.new ≡ over 0 starts.old (top picture.width picture.height + 1) (start (faces_of (code_of picture.kind)) picture.width picture.height) }
 {
-    walk_all(faces, smaller(width, height), larger(width, height), starts)
+    let Picture {
+        kind,
+        width,
+        height,
+    } = picture;
+    walk_all(
+        kind.faces() as u32,
+        width.min(height),
+        width.max(height),
+        starts,
+    )
 }

@@ -12,7 +12,7 @@ use Rattle.rules.specs.declared.Refusal.{Refusal}
 use Rattle.rules.specs.declared.Refusal.TheVariants.{UnknownKind, SideOutside, ShortBuffer, UnknownWrap, NumberOutside, LevelAbove, DirectionOutside, KindNotTaken, CrossOutside, CutOutside, NotTheFile, PlaceOutside, UnknownPacking}
 use Rattle.rules.specs.Refusals.{◌or_else◌, number_of}
 use Rattle.rules.specs.Answers.{answer, leaves, refused, told}
-use Rattle.rules.proofs.Refusing.{answer-refused, none_or_some}
+use Rattle.rules.proofs.Refusing.{answer-given, answer-refused, none_or_some}
 
 -- what follows where nothing is refused
 abbrev pub first : {A B : Type 0} → Result A Refusal → Result B Refusal → Result B Refusal
@@ -55,6 +55,14 @@ given_none n a b e =
     (λ none. none)
     (λ some. absurd (false≢true (ap is-given (sym (answer-refused n refused (Ok a) some) ∙ e))))
     (none_or_some n)
+
+abbrev given-in : {A : Type 0} → A → Result A Refusal → A
+given-in other (Ok given) = given
+given-in other (Err refusal) = other
+
+-- and what is given is the answer's
+pub given_is : {A : Type 0} (n : ℕ) (a b : A) → answer n refused (Ok a) ≡ Ok b → b ≡ a
+given_is n a b e = ap (given-in b) (sym e ∙ answer-given n refused (Ok a) (given_none n a b e))
 
 pub told_none : (n : ℕ) → told n ≡ Ok tt → n ≡ 0
 told_none n e = given_none n tt tt e

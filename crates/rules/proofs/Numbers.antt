@@ -17,7 +17,8 @@ use Rattle.rules.specs.Ranges.{ranges_size}
 use Rattle.rules.specs.Lanes.{Lanes, Wholes, Directions}
 use Rattle.rules.specs.Wrapping.{wrap_code}
 use Rattle.rules.specs.Packing.{packing_code}
-use Rattle.rules.specs.Answers.{answer, refused}
+use Rattle.rules.specs.Answers.{answer, refused, told}
+use Rattle.rules.proofs.Answering.{number-some}
 use Rattle.rules.proofs.Refusing.{answer-given, answer-refused, none_or_some, or_else-zero, or_else-given}
 
 -- 0, or a number that a refusal has
@@ -61,6 +62,15 @@ refusal-numbered UnknownPacking = refl
 
 pub known-number : (refusal : Refusal) → Known (number_of refusal)
 known-number refusal = record { is = λ some. ap number_of (refusal-numbered refusal) }
+
+-- a test that holds, and one that fails
+pub told_given : (n : ℕ) → n ≡ 0 → Ok tt ≡ told n
+told_given n none = sym (answer-given n refused (Ok tt) none)
+
+pub told_refused : (n : ℕ) (refusal : Refusal) → n ≡ number_of refusal → Err refusal ≡ told n
+told_refused n refusal e =
+    ap Err (sym (refusal-numbered refusal) ∙ ap refusal_of (sym e))
+    ∙ sym (answer-refused n refused (Ok tt) (λ none. number-some refusal (sym e ∙ none)))
 
 pub known-in : {A : Type 0} (found : Result A Refusal) → Known (number_in found)
 known-in (Ok given) = record { is = λ some. absurd (some refl) }

@@ -10,7 +10,7 @@ use Prim.Native.Nat.{ℕ, zero, suc, ◌≤◌, ◌<◌, suc-le-suc}
 use native.Mathlib.Omega.{arith}
 use borrow.Author.Tests.{leb-true, eqb-true, eqb-false, not-true, le-leb, lt-leb, eq-eqb, ne_eqb}
 use lib.Dec.{leb, eqb}
-use Rattle.rules.specs.Kinds.{cubemap, faces_of}
+use Rattle.rules.specs.Kinds.{cubemap, faces_of, code_of, kind_of}
 use Rattle.rules.specs.Sizes.{top, count}
 use Rattle.rules.specs.Pictures.{Picture}
 use Rattle.rules.specs.Packing.{packing_code}
@@ -111,6 +111,16 @@ kind-facts kind e = le-facts kind 4 0 e
 pub kind-refused : (kind : ℕ) → 4 < kind → kind_refusal kind ≡ 1
 unfolding kind_refusal
 kind-refused kind h = le-refused 1 h
+
+-- a code that is not refused is its kind's
+pub kind_coded : (kind : ℕ) → kind ≤ 4 → code_of (kind_of kind) ≡ kind
+unfolding kind_of
+kind_coded zero h = refl
+kind_coded (suc zero) h = refl
+kind_coded (suc (suc zero)) h = refl
+kind_coded (suc (suc (suc zero))) h = refl
+kind_coded (suc (suc (suc (suc zero)))) h = refl
+kind_coded (suc (suc (suc (suc (suc kind))))) h = absurd (omega arith)
 
 -- ---- 2: a side is 0 or above 4,096
 

@@ -44,6 +44,11 @@ refused n = Err (refusal_of n)
 abbrev pub told : ℕ → Result Unit Refusal
 told n = answer n refused (Ok tt)
 
+-- whether something is given, and else why not
+abbrev pub done : {A : Type 0} → Result A Refusal → Result Unit Refusal
+done (Ok given) = Ok tt
+done (Err refusal) = Err refusal
+
 -- codes to kinds and modes
 abbrev pub kind_decodes : ℕ → Result Kind Refusal → Type 0
 kind_decodes code kind = kind ≡ answer (kind_refusal code) refused (Ok (kind_of code))

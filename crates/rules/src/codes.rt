@@ -1,4 +1,6 @@
 // Codes to kinds and modes: every code that stands for none is refused.
+ghost use Rattle.std.specs.Prelude.{◌≡◌};
+ghost use Rattle.rules.specs.Kinds.{faces_of, code_of};
 ghost use Rattle.rules.specs.Answers.{kind_decodes, packing_decodes, wrap_decodes};
 
 use crate::{Kind, Mode, Packing, Refusal};
@@ -18,6 +20,26 @@ impl TryFrom<u32> for Kind {
             3 => Ok(Kind::Cubemap),
             4 => Ok(Kind::Linear),
             _ => Err(Refusal::UnknownKind),
+        }
+    }
+}
+
+impl Kind {
+    // Document 01's code.
+    pub fn code(self) -> u32
+        ensures { result ≡ code_of self }
+    {
+        self as u32
+    }
+
+    // Six faces for a cubemap, one for every other kind.
+    #[tactic(auto, unfolding(crate::specs::Kinds::faces_of))]
+    pub fn faces(self) -> usize
+        ensures { result ≡ faces_of (code_of self) }
+    {
+        match self {
+            Kind::Cubemap => 6,
+            _ => 1,
         }
     }
 }

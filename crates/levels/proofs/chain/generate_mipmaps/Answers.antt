@@ -2,51 +2,23 @@
 use mathlib.Core.Path.{sym, ◌∙◌}
 use native.Mathlib.Numerals.{add-one}
 use native.Mathlib.Omega.{arith}
-use lib.ListN.{length}
 use Rattle.rules.specs.Sizes.{count}
 use Rattle.rules.specs.Pictures.{filled_of}
-use Rattle.rules.proofs.Refusing.{Chained, chain-facts}
-use Rattle.rules.proofs.Bounds.{faces-some, faces-most}
-use Rattle.levels.proofs.Passing.{passed, chain-stops, mode-stops, chain-goes}
+use Rattle.rules.specs.Answers.{chain_leaves}
+use Rattle.rules.proofs.Answering.{told_none}
+use Rattle.rules.proofs.Refusing.{answer-given}
 use Rattle.levels.proofs.chain.generate_mipmaps.Goals as goal
-use Rattle.levels.proofs.chain.generate_mipmaps.Goals.{Else-refusal-ne0}
 
-pub returns-then-refusal-ne0 : goal.returns-then-refusal-ne0
-returns-then-refusal-ne0 c = let all = chain-stops _ _ _ _ _ c.chain_refusal-refusal.ensures c.if-refusal-ne0.true in record {
-  answer = all.0;
-  leaves = all.1;
-}
-
--- past the first test nothing but the mode is refused
-known : (c : goal.Else-refusal-ne0) → let a = c.args in Chained a.kind a.width a.height (length a.texels.now)
-known c = chain-facts _ _ _ _ (passed c.chain_refusal-refusal.ensures c.if-refusal-ne0.false)
-
-pub fill-requires : goal.fill-requires
+pub fill-requires-clause-room : goal.fill-requires-clause-room
 unfolding count
-fill-requires c =
-    let k = known (goal.at.fill-requires c).Else-refusal-ne0 in
-    let kind = c.args.kind in
-    let faces = c.faces_of-faces.ensures in
-    record {
-      sides = omega (arith, faces, faces-some kind, faces-most kind, k.taken);
-      room = (omega arith, rw (faces, c.top_level.ensures, add-one) k.room);
-    }
+fill-requires-clause-room c =
+    let is = c.in_ok-picture.ensures.is.0 in
+    (omega arith, rw (c.faces.ensures, c.top_level.ensures.0, is.0, is.1, is.2, add-one) c.in_ok-picture.ensures.room)
 
-pub count_of-requires : goal.count_of-requires
-count_of-requires c =
-    omega (arith, (known (goal.at.count_of-requires c).Else-refusal-ne0).taken, faces-most c.args.kind)
-
-pub returns-in-By : goal.returns-in-By
-unfolding filled_of
-returns-in-By c = let all = let of = c.faces_of-faces.ensures in
-    chain-goes _ _ _ _ _ (passed c.chain_refusal-refusal.ensures c.if-refusal-ne0.false) (sym c.in-By.is ∙ c.packing_code.ensures) (rw (c.count_of.ensures, of))
-    (c.fill.ensures ∙ rw (of, c.top_level.ensures, add-one)) in record {
-      answer = all.0;
-      leaves = all.1;
-    }
-
-pub returns-in-Refused : goal.returns-in-Refused
-returns-in-Refused c = let all = mode-stops _ _ _ _ _ (passed c.chain_refusal-refusal.ensures c.if-refusal-ne0.false) (sym c.in-Refused.is ∙ c.packing_code.ensures) in record {
-  answer = all.0;
-  leaves = all.1;
-}
+pub returns-clause-leaves : goal.returns-clause-leaves
+unfolding filled_of chain_leaves
+returns-clause-leaves c =
+    let given = c.in_ok-picture.ensures in
+    let is = given.is.0 in
+    c.fill.ensures
+    ∙ rw (c.code.ensures, c.faces.ensures, c.top_level.ensures.0, is.0, is.1, is.2, given.is.1, add-one) (sym (answer-given _ _ _ (told_none _ (sym given.told))))

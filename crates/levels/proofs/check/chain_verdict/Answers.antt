@@ -1,16 +1,37 @@
--- `levels::check::chain_verdict` meets its contract: all levels, from level 0 on.
-use mathlib.Core.Path.{◌∙◌}
+use mathlib.Core.Path.{◌≡◌, refl, sym, ap, ◌∙◌}
+use Prim.Native.Nat.{suc, ◌+◌, ◌-◌}
+use native.Mathlib.Numerals.{add-one}
 use native.Mathlib.Omega.{arith}
-use Rattle.rules.proofs.Bounds.{top-most}
-use Rattle.levels.proofs.Checks.{from-chain}
+use Rattle.rules.specs.Kinds.{faces_of, code_of}
+use Rattle.rules.specs.Sizes.{top}
+use Rattle.rules.specs.Reducing.{reduce_of}
+use Rattle.rules.specs.Checks.{levels_verdict, level_verdict_of, chain_verdict_of}
+use Rattle.rules.proofs.Checks.{levels-more, levels-stop}
 use Rattle.levels.proofs.check.chain_verdict.Goals as goal
 
-pub overflow_add-top_level : goal.overflow_add-top_level
-overflow_add-top_level c =
-    let s = c.requires.0 in
-    omega (arith, c.top_level.ensures, top-most _ _ s.some-w s.most-w s.most-h)
+pub loop-level-init : goal.loop-level-init
+unfolding levels_verdict
+loop-level-init c = refl
+
+pub returns-in-Some : goal.returns-in-Some
+unfolding level_verdict_of chain_verdict_of
+returns-in-Some c =
+    let p = c.args.picture in
+    let R = reduce_of (code_of p.kind) c.args.packing in
+    let F = faces_of (code_of p.kind) in
+    let m = c.loop-level.level in
+    let l = c.args.texels.now in
+    sym (levels-stop R F p.width p.height l (suc m) (suc (top p.width p.height)) _ (levels-more R F p.width p.height l m c.loop-level.invariant ∙ sym c.level_verdict.ensures ∙ c.in-Some.is) (omega (arith, c.top_level-level-end.ensures)))
+
+pub loop-level-preserved : goal.loop-level-preserved
+unfolding level_verdict_of
+loop-level-preserved c =
+    let p = c.args.picture in
+    rw add-one (levels-more (reduce_of (code_of p.kind) c.args.packing) (faces_of (code_of p.kind)) p.width p.height c.args.texels.now c.loop-level.level c.loop-level.invariant
+    ∙ sym c.level_verdict.ensures ∙ c.in_default.is)
 
 pub returns : goal.returns
+unfolding chain_verdict_of
 returns c =
-    let a = c.args in
-    rw c.top_level.ensures at c.levels_verdict.ensures ∙ from-chain a.kind a.packing a.width a.height a.texels.now
+    let e : c.loop-level.level ≡ suc (top c.args.picture.width c.args.picture.height) = omega (arith, c.top_level-level-end.ensures) in
+    sym (rw e at c.loop-level.invariant)

@@ -4,7 +4,7 @@ use Rattle.kinds.proofs.Runs.{over_first, over-set, over-end}
 use Rattle.levels.proofs.cross.put_bytes.Goals as goal
 
 pub loop-x-init : goal.loop-x-init
-loop-x-init c = (omega arith, over_first _ _ _ (omega arith))
+loop-x-init c = over_first _ _ _ (omega arith)
 
 pub overflow_add-from : goal.overflow_add-from
 overflow_add-from c = omega arith
@@ -21,17 +21,11 @@ offset_bounds-faces-to c = omega arith
 pub bounds-faces-to : goal.bounds-faces-to
 bounds-faces-to c = omega arith
 
-pub overflow_add-x : goal.overflow_add-x
-overflow_add-x c = omega arith
-
-pub loop-x-smaller : goal.loop-x-smaller
-loop-x-smaller c = omega arith
-
 pub loop-x-preserved : goal.loop-x-preserved
-loop-x-preserved c = (omega arith, over-set c.loop-x.invariant.1 _ _ refl (omega arith) c.bytes_at.ensures)
+loop-x-preserved c = over-set c.loop-x.invariant _ _ refl (omega arith) c.bytes_at.ensures
 
 pub shape_of-faces : goal.shape_of-faces
-shape_of-faces c = c.loop-x.invariant.1.as_long
+shape_of-faces c = c.loop-x.invariant.as_long
 
 pub returns : goal.returns
-returns c = over-end c.loop-x.invariant.1 _ (omega arith)
+returns c = over-end c.loop-x.invariant _ (omega arith)

@@ -56,12 +56,6 @@ put_bytes-requires c =
     let p = place (goal.at.put_bytes-requires c).After-column_of in
     record { bytes_room = omega (arith, p); faces_room = omega (arith, p) }
 
-pub overflow_add-y : goal.overflow_add-y
-overflow_add-y c = omega (arith, place (goal.at.overflow_add-y c).After-column_of)
-
-pub loop-y-smaller : goal.loop-y-smaller
-loop-y-smaller c = omega arith
-
 pub loop-y-preserved : goal.loop-y-preserved
 loop-y-preserved c =
     faces-more c.loop-y.invariant c.loop-y-test.true _ c.row_of.ensures c.column_of.ensures c.put_bytes.ensures

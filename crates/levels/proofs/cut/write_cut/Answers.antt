@@ -34,12 +34,6 @@ put-requires c =
     let below = c.loop-y-test.true in
     (cut-row rows below, omega (arith, rows.rows.run, cut-room rows below))
 
-pub overflow_add-y : goal.overflow_add-y
-overflow_add-y c = omega arith
-
-pub loop-y-smaller : goal.loop-y-smaller
-loop-y-smaller c = omega arith
-
 pub loop-y-preserved : goal.loop-y-preserved
 loop-y-preserved c =
     cut-more c.loop-y.invariant c.loop-y-test.true _ c.put.ensures

@@ -5,4 +5,4 @@ use Rattle.levels.proofs.sizes.top_level.Goals as goal
 
 pub returns : goal.returns
 unfolding top
-returns c = c.log2.ensures ∙ ap log2 c.larger.ensures
+returns c = c.log2.ensures ∙ ap log2 c.max.ensures

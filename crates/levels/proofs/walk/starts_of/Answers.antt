@@ -1,18 +1,20 @@
 -- `levels::walk::starts_of` meets its contract: levels start in the same places whichever side is named first.
 use native.Mathlib.Omega.{arith}
+use Rattle.rules.specs.Kinds.{faces_of, code_of}
 use Rattle.levels.proofs.Walks.{ordered-sides, ordered-count, ordered-over}
 use Rattle.levels.proofs.walk.starts_of.Goals as goal
 
 pub walk_all-requires : goal.walk_all-requires
 walk_all-requires c =
-    (ordered-sides _ _ _ c.smaller.ensures c.larger.ensures c.requires.0, omega (arith, c.smaller.ensures, c.larger.ensures), c.requires.1)
+    let p = c.args.picture in
+    (rw c.faces.ensures (ordered-sides _ _ _ c.min.ensures c.max.ensures p.sides), omega (arith, c.min.ensures, c.max.ensures), c.requires)
 
 pub returns : goal.returns
 returns c =
-    let F = c.args.faces in
-    let es = c.smaller.ensures in
-    let el = c.larger.ensures in
+    let F = faces_of (code_of c.args.picture.kind) in
+    let es = c.min.ensures in
+    let el = c.max.ensures in
     record {
-      total = ordered-count F _ _ es el c.walk_all.ensures.total;
-      leaves = ordered-over F _ _ es el _ c.walk_all.ensures.leaves;
+      total = ordered-count F _ _ es el (rw c.faces.ensures at c.walk_all.ensures.total);
+      leaves = ordered-over F _ _ es el _ (rw c.faces.ensures at c.walk_all.ensures.leaves);
     }

@@ -1,0 +1,17 @@
+-- `levels::picture::Picture::size_at` meets its contract: no product wraps.
+use native.Mathlib.Nat.{mul-le-mul}
+use native.Mathlib.Omega.{arith}
+use Rattle.rules.specs.Kinds.{faces_of, code_of}
+use Rattle.rules.specs.Sizes.{size_at}
+use Rattle.levels.proofs.Starts.{side-most, size-most}
+use Rattle.levels.proofs.picture.Picture.size_at.Goals as goal
+
+pub returns : goal.returns
+unfolding size_at
+returns c = rw (c.faces.ensures, c.height_at.ensures, c.width_at.ensures)
+
+pub overflow_mul-result-2 : goal.overflow_mul-result-2
+overflow_mul-result-2 c =
+    let p = c.args.self in
+    let s = p.sides in
+    rw (returns c) (omega (arith, size-most (faces_of (code_of p.kind)) p.width p.height s.most-f s.most-w s.most-h c.args.level))

@@ -1,0 +1,40 @@
+-- `levels::view::face_of` meets its contract: a face of a level ends within the chain.
+use mathlib.Core.Path.{◌≡◌, refl, sym, ap, ◌∙◌}
+use Prim.Native.Nat.{◌+◌, ◌*◌, ◌≤◌}
+use native.Mathlib.Nat.{le_trans}
+use native.Mathlib.Omega.{arith}
+use Rattle.rules.specs.Kinds.{faces_of, code_of}
+use Rattle.rules.specs.Sizes.{side_at, start}
+use Rattle.rules.specs.Places.{plane_of}
+use Rattle.rules.specs.View.{face_start}
+use Rattle.rules.proofs.Bounds.{face-end}
+use Rattle.levels.proofs.view.face_of.Goals as goal
+use Rattle.levels.proofs.view.face_of.Goals.{After-plane}
+
+-- where the level starts, and that the face ends within the buffer
+ends : (c : goal.After-plane)
+    → let a = c.args in
+    let size = c.height_at.result * c.width_at.result in
+    (c.plane.result.start ≡ start (faces_of a.kind) a.width a.height a.level)
+    × (size ≡ side_at a.level a.height * side_at a.level a.width)
+    × (c.plane.result.start + a.face * size + size ≤ a.n)
+unfolding plane_of face_start
+ends c =
+    let a = c.args in
+    let given = c.in_ok-layout.ensures in
+    let is = given.is in
+    let at : c.plane.result.start ≡ start (faces_of a.kind) a.width a.height a.level = rw c.plane.ensures (rw (is.0, is.1, is.2)) in
+    let e : c.height_at.result * c.width_at.result ≡ side_at a.level a.height * side_at a.level a.width = rw (c.height_at.ensures, c.width_at.ensures, is.1, is.2) in
+    let below = rw (is.1, is.2) at c.in_ok-check_level.ensures.below in
+    let face = rw is.0 at c.in_ok-check_face.ensures.below in
+    (at, e, rw (at, e) (le_trans (face-end (faces_of a.kind) a.width a.height a.level a.face below.0 face) given.room))
+
+pub overflow_mul-start : goal.overflow_mul-start
+overflow_mul-start c = omega (arith, ends c)
+
+pub overflow_add-start : goal.overflow_add-start
+overflow_add-start c = omega (arith, ends (goal.at.overflow_add-start c).After-plane)
+
+pub returns-clause-is : goal.returns-clause-is
+unfolding face_start
+returns-clause-is c = let f = ends (goal.at.returns-clause-is c).After-plane in ((rw (f.0, f.1), f.1), f.2)
