@@ -4,10 +4,10 @@ use mathlib.Core.List.{List}
 use Prim.Native.Nat.{ℕ, ◌≤◌}
 use native.Mathlib.Omega.{arith}
 use lib.ListN.{length}
-use Rattle.rules.specs.declared.Lanes.{Lanes}
-use Rattle.rules.specs.declared.Wholes.{Wholes}
+use Rattle.rules.specs.Lanes.{Lanes}
+use Rattle.rules.specs.Lanes.{Wholes}
 use Rattle.rules.specs.declared.Mode.{Mode}
-use Rattle.rules.specs.declared.Spots.{Spots}
+use Rattle.rules.specs.Lanes.{Spots}
 use Rattle.rules.specs.Kinds.{cubemap, faces_of}
 use Rattle.rules.specs.Sizes.{top}
 use Rattle.rules.specs.Places.{plane_of, nearest_place}
@@ -20,7 +20,7 @@ use Rattle.places.proofs.CubePlaces.{spot-reads}
 use Rattle.places.specs.Sized.{Sized, Below}
 use Rattle.places.specs.Stands.{axes_of}
 use Rattle.lane.specs.Cubes.{AllOnCube, cube_four}
-use Rattle.lane.specs.Reading.{nearest_four, corners_on, squares_at, Inside, AllWithin}
+use Rattle.lane.specs.Reading.{nearest_four, places_of, squares_at, Inside, AllWithin}
 
 -- a level of a picture that is taken
 pub plane-sized : {kind w h m : ℕ} → Taken kind w h → m ≤ top w h → Sized (plane_of kind w h m)
@@ -47,21 +47,21 @@ module _ {kind w h : ℕ} (l : List ℕ) (m : ℕ) (c : Chained kind w h (length
   unfolding nearest_four nearest_place
   nearest-inside =
       let at = nearest-reads m c below s t in
-      record { in-a = (at u.a v.a).lent; in_b = (at u.b v.b).lent; in_c = (at u.c v.c).lent; in-d = (at u.d v.d).lent }
+      record { a = (at u.a v.a).lent; b = (at u.b v.b).lent; c = (at u.c v.c).lent; d = (at u.d v.d).lent }
 
   pub squares-within : (f : Wholes) → Below (faces_of kind) f → AllWithin l (squares_at (plane_of kind w h m) f s t u v)
-  unfolding squares_at axes_of corners_on
+  unfolding squares_at axes_of places_of
   squares-within f on =
       let at = corners-read m c below s t in
-      let p = at f.a on.in-a u.a v.a in
-      let q = at f.b on.in_b u.b v.b in
-      let r = at f.c on.in_c u.c v.c in
-      let z = at f.d on.in-d u.d v.d in
+      let p = at f.a on.a u.a v.a in
+      let q = at f.b on.b u.b v.b in
+      let r = at f.c on.c u.c v.c in
+      let z = at f.d on.d u.d v.d in
       record {
-        in00 = record { in-a = p.0.lent; in_b = q.0.lent; in_c = r.0.lent; in-d = z.0.lent };
-        in10 = record { in-a = p.1.lent; in_b = q.1.lent; in_c = r.1.lent; in-d = z.1.lent };
-        in01 = record { in-a = p.2.lent; in_b = q.2.lent; in_c = r.2.lent; in-d = z.2.lent };
-        in11 = record { in-a = p.3.lent; in_b = q.3.lent; in_c = r.3.lent; in-d = z.3.lent };
+        in00 = record { a = p.0.lent; b = q.0.lent; c = r.0.lent; d = z.0.lent };
+        in10 = record { a = p.1.lent; b = q.1.lent; c = r.1.lent; d = z.1.lent };
+        in01 = record { a = p.2.lent; b = q.2.lent; c = r.2.lent; d = z.2.lent };
+        in11 = record { a = p.3.lent; b = q.3.lent; c = r.3.lent; d = z.3.lent };
       }
 
 -- on the cube, at every level
@@ -69,8 +69,8 @@ pub cubes-inside : {w h : ℕ} (l : List ℕ) (s : Spots) (m : Wholes) → Chain
 unfolding cube_four cube_place
 cubes-inside l s m c on =
     record {
-      in-a = (spot-reads _ m.a c on.on-a).lent;
-      in_b = (spot-reads _ m.b c on.on-b).lent;
-      in_c = (spot-reads _ m.c c on.on-c).lent;
-      in-d = (spot-reads _ m.d c on.on-d).lent;
+      a = (spot-reads _ m.a c on.a).lent;
+      b = (spot-reads _ m.b c on.b).lent;
+      c = (spot-reads _ m.c c on.c).lent;
+      d = (spot-reads _ m.d c on.d).lent;
     }

@@ -2,9 +2,9 @@
 use mathlib.Core.Path.{◌≡◌, refl}
 use mathlib.Core.List.{List}
 use Prim.Native.Nat.{ℕ}
-use Rattle.rules.specs.declared.Lanes.{Lanes}
-use Rattle.rules.specs.declared.Wholes.{Wholes}
-use Rattle.rules.specs.declared.Directions.{Directions}
+use Rattle.rules.specs.Lanes.{Lanes}
+use Rattle.rules.specs.Lanes.{Wholes}
+use Rattle.rules.specs.Lanes.{Directions}
 use Rattle.rules.specs.declared.Mode.{Mode}
 use Rattle.rules.specs.declared.Plane.{Plane}
 use Rattle.rules.specs.Sizes.{top}
@@ -15,7 +15,7 @@ use Rattle.rules.specs.Cubemap.{spot_rgb, cubemap_rgb, lerp_rgb, between_levels,
 use Rattle.rules.specs.Answers.{spots_of, spots_at}
 use Rattle.places.specs.Stands.{axes_of}
 use Rattle.lane.specs.Cubes.{cube_four, two_levels, lerp_colours}
-use Rattle.lane.specs.Reading.{nearest_four, corners_on, squares_at, read_rgb, read_alpha, blended_rgb, blended_alpha}
+use Rattle.lane.specs.Reading.{nearest_four, places_of, squares_at, read_rgb, read_alpha, blended_rgb, blended_alpha}
 
 module _ (l : List ℕ) (p : Plane) (s t : Mode) (u v : Lanes) where
   pub nearest-colours : rgb_lanes (nearest_rgb l p s t u.a v.a) (nearest_rgb l p s t u.b v.b) (nearest_rgb l p s t u.c v.c) (nearest_rgb l p s t u.d v.d) ≡ read_rgb l (nearest_four p s t u v)
@@ -27,11 +27,11 @@ module _ (l : List ℕ) (p : Plane) (s t : Mode) (u v : Lanes) where
   nearest-alphas = refl
 
   pub bilinear-colours : (f : Wholes) → rgb_lanes (bilinear_rgb l p f.a s t u.a v.a) (bilinear_rgb l p f.b s t u.b v.b) (bilinear_rgb l p f.c s t u.c v.c) (bilinear_rgb l p f.d s t u.d v.d) ≡ blended_rgb l (squares_at p f s t u v)
-  unfolding bilinear_rgb corners_at corners_of squares_at axes_of corners_on blended_rgb
+  unfolding bilinear_rgb corners_at corners_of squares_at axes_of places_of blended_rgb
   bilinear-colours f = refl
 
   pub bilinear-alphas : lanes_of (bilinear_alpha l p s t u.a v.a) (bilinear_alpha l p s t u.b v.b) (bilinear_alpha l p s t u.c v.c) (bilinear_alpha l p s t u.d v.d) ≡ blended_alpha l (squares_at p (record { a = 0; b = 0; c = 0; d = 0 }) s t u v)
-  unfolding bilinear_alpha corners_at corners_of squares_at axes_of corners_on blended_alpha
+  unfolding bilinear_alpha corners_at corners_of squares_at axes_of places_of blended_alpha
   bilinear-alphas = refl
 
 module _ (l : List ℕ) (w h : ℕ) (n : Directions) where

@@ -3,52 +3,41 @@ ghost use Rattle.std.specs.Prelude.{◌≡◌};
 ghost use Rattle.rules.specs.Lanes.{lanes_of};
 ghost use Rattle.rules.specs.Bilinear.{blend_of};
 ghost use Rattle.rules.proofs.RefusingLookups.{Coordinates};
-ghost use Rattle.places.specs.Sized.{Sized, Below};
+ghost use Rattle.places.specs.Sized.{Below};
 ghost use Rattle.lane.specs.Reading.{squares_at, AllWithin, blended_rgb, blended_alpha};
 
-use crate::corners::corners;
 use crate::pixel::{opacity_four, rgb_four};
-use crate::reading::{FourCorners, as_four};
+use crate::reading::places;
+use choice::lanes::{each, pairs};
 use places::axis::four_axes;
 use places::blend::{blend, blend_alpha, weigh};
-use rules::{Directions, Lanes, Mode, Plane, Weights, Wholes};
+use places::place::Level;
+use places::wrap::Wrapping;
+use rules::{Corners, Directions, Four, Lanes, Weights, Wholes};
 
-// The products of four lanes' weights.
-#[derive(Clone, Copy)]
-struct FourWeights {
-    a: Weights,
-    b: Weights,
-    c: Weights,
-    d: Weights,
-}
-
-// The places of four lanes, each on its own face.
-pub fn squares(p: Plane, faces: Wholes, s: Mode, t: Mode, u: Lanes, v: Lanes) -> FourCorners
-    requires { Sized p × Below p.faces faces × Coordinates u v }
-    ensures { result ≡ squares_at p faces s t u v }
+// The places of four lanes, each on its own face, and the weights: the lanes side by side.
+#[tactic(auto, unfolding(crate::specs::Reading::squares_at))]
+pub fn squares(on: Level, faces: Wholes, by: Wrapping, u: Lanes, v: Lanes) -> Corners<Four<usize>, Lanes>
+    requires { Below on.plane.faces faces × Coordinates u v }
+    ensures { result ≡ squares_at on.plane faces by.s by.t u v }
 {
-    let x = four_axes(s, u, p.width);
-    let y = four_axes(t, v, p.height);
-    let a = corners(p, faces.a, x.first.a, x.second.a, y.first.a, y.second.a);
-    let b = corners(p, faces.b, x.first.b, x.second.b, y.first.b, y.second.b);
-    let c = corners(p, faces.c, x.first.c, x.second.c, y.first.c, y.second.c);
-    let d = corners(p, faces.d, x.first.d, x.second.d, y.first.d, y.second.d);
-    let fx = x.part;
-    let fy = y.part;
-    FourCorners {
-        p00: as_four(a.a, b.a, c.a, d.a),
-        p10: as_four(a.b, b.b, c.b, d.b),
-        p01: as_four(a.c, b.c, c.c, d.c),
-        p11: as_four(a.d, b.d, c.d, d.d),
-        fx,
-        fy,
+    let x = four_axes(by.s, u, on.plane.width);
+    let y = four_axes(by.t, v, on.plane.height);
+    Corners {
+        p00: places(on, faces, x.first, y.first),
+        p10: places(on, faces, x.second, y.first),
+        p01: places(on, faces, x.first, y.second),
+        p11: places(on, faces, x.second, y.second),
+        fx: x.part,
+        fy: y.part,
     }
 }
 
 // One channel of four lanes, each blended by its own weights.
-fn blend_lanes(w: FourWeights, p00: Lanes, p10: Lanes, p01: Lanes, p11: Lanes) -> Lanes
+fn blend_lanes(w: Four<Weights>, p00: Lanes, p10: Lanes, p01: Lanes, p11: Lanes) -> Lanes
     ensures { result ≡ lanes_of (blend_of w.a p00.a p10.a p01.a p11.a) (blend_of w.b p00.b p10.b p01.b p11.b) (blend_of w.c p00.c p10.c p01.c p11.c) (blend_of w.d p00.d p10.d p01.d p11.d) }
 {
+    // Four lines: five operands a lane, of which `pairs` would make pairs of pairs.
     Lanes {
         a: blend(w.a, p00.a, p10.a, p01.a, p11.a),
         b: blend(w.b, p00.b, p10.b, p01.b, p11.b),
@@ -58,16 +47,12 @@ fn blend_lanes(w: FourWeights, p00: Lanes, p10: Lanes, p01: Lanes, p11: Lanes) -
 }
 
 // The colours of four lanes, from their places: all first corners are read, then all second ones, and each channel is blended.
-pub fn squares_rgb(texels: &[u32], f: FourCorners) -> Directions
+#[tactic(auto, unfolding(crate::specs::Reading::blended_rgb, crate::specs::Reading::read_rgb, rules::specs::Bilinear::corners_rgb, rules::specs::Bilinear::blend_rgb))]
+pub fn squares_rgb(texels: &[u32], f: Corners<Four<usize>, Lanes>) -> Directions
     requires { AllWithin texels.now f }
     ensures { result ≡ blended_rgb texels.now f }
 {
-    let w = FourWeights {
-        a: weigh(f.fx.a, f.fy.a),
-        b: weigh(f.fx.b, f.fy.b),
-        c: weigh(f.fx.c, f.fy.c),
-        d: weigh(f.fx.d, f.fy.d),
-    };
+    let w = each(pairs(f.fx, f.fy), |(x, y)| weigh(x, y));
     let p00 = rgb_four(texels, f.p00);
     let p10 = rgb_four(texels, f.p10);
     let p01 = rgb_four(texels, f.p01);
@@ -80,7 +65,8 @@ pub fn squares_rgb(texels: &[u32], f: FourCorners) -> Directions
 }
 
 // The alphas of four lanes, from their places: all first corners are read, then all second ones, and each lane is blended.
-pub fn squares_alpha(texels: &[u32], f: FourCorners) -> Lanes
+#[tactic(auto, unfolding(crate::specs::Reading::blended_alpha, crate::specs::Reading::read_alpha, rules::specs::Bilinear::corners_alpha))]
+pub fn squares_alpha(texels: &[u32], f: Corners<Four<usize>, Lanes>) -> Lanes
     requires { AllWithin texels.now f }
     ensures { result ≡ blended_alpha texels.now f }
 {
@@ -88,6 +74,7 @@ pub fn squares_alpha(texels: &[u32], f: FourCorners) -> Lanes
     let p10 = opacity_four(texels, f.p10);
     let p01 = opacity_four(texels, f.p01);
     let p11 = opacity_four(texels, f.p11);
+    // Four lines: six operands a lane.
     Lanes {
         a: blend_alpha(f.fx.a, f.fy.a, p00.a, p10.a, p01.a, p11.a),
         b: blend_alpha(f.fx.b, f.fy.b, p00.b, p10.b, p01.b, p11.b),

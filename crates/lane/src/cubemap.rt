@@ -1,47 +1,72 @@
 // The cubemap lookup: the nearest texel of the face that a direction meets.
+ghost use Rattle.rules.specs.Kinds.{cubemap, code_of};
 ghost use Rattle.std.specs.Prelude.{◌≡◌};
-ghost use Rattle.rules.specs.Kinds.{cubemap, faces_of};
 ghost use Rattle.rules.specs.Cubemap.{cube_place};
-ghost use Rattle.rules.proofs.Refusing.{Taken};
 ghost use Rattle.places.specs.Spots.{OnCube};
-ghost use Rattle.levels.specs.Starts.{Started};
-ghost use Rattle.lane.specs.Cubes.{lowered_place, AllOnCube, cube_four};
-ghost use Rattle.places.specs.Sized.{Sized};
 
-use crate::plane::lowered;
-use crate::reading::Four;
-use crate::spots::{spot_a, spot_b, spot_c, spot_d};
+use crate::level::{level_at, lowered};
+use crate::spots::spots_in;
+use choice::lanes::{each, pairs};
+use levels::layout::Layout;
 use places::cube::cube_texel;
-use places::place::place;
-use rules::{Plane, Spot, Spots, Wholes};
+use places::place::Level;
+use rules::{Four, Spot, Spots, Wholes};
+
+// A cubemap of which it is known where each level starts.
+#[derive(Clone, Copy)]
+pub struct Cube<'a> {
+    pub layout: &'a Layout,
+    pub ghost is: { code_of layout.now.picture.kind ≡ cubemap },
+}
+
+impl<'a> Cube<'a> {
+    ghost use Rattle.std.specs.Prelude.{◌≤◌, suc};
+    ghost use Rattle.rules.specs.Sizes.{top};
+    ghost use Rattle.places.specs.Sized.{Below};
+    ghost use Rattle.places.specs.Spots.{OnCube};
+    ghost use Rattle.lane.specs.Cubes.{lowered_place, AllOnCube, cube_four};
+
+    // Where a lane reads a level, which is lowered to the top level.
+    fn lowered_place(self, s: Spot, level: u32) -> usize
+        requires { OnCube s }
+        ensures { result ≡ lowered_place self.layout.now.picture.width self.layout.now.picture.height s level }
+    {
+        cube_place(lowered(self.layout, level), s)
+    }
+
+    // Where four do, each at its own level.
+    #[tactic(auto, unfolding(crate::specs::Cubes::cube_four))]
+    pub fn lowered_places(self, s: Spots, levels: Wholes) -> Four<usize>
+        requires { AllOnCube s }
+        ensures { result ≡ cube_four self.layout.now.picture.width self.layout.now.picture.height s levels }
+    {
+        each(pairs(spots_in(s), levels), |(s, level)| self.lowered_place(s, level))
+    }
+
+    // Where a lane reads a level of the picture: no level is lowered.
+    fn place(self, s: Spot, level: u32) -> usize
+        requires { OnCube s × (level ≤ top self.layout.now.picture.width self.layout.now.picture.height) }
+        ensures { result ≡ lowered_place self.layout.now.picture.width self.layout.now.picture.height s level }
+    {
+        cube_place(level_at(self.layout, level), s)
+    }
+
+    // Where four do.
+    #[tactic(auto, unfolding(crate::specs::Cubes::cube_four))]
+    pub fn places(self, s: Spots, levels: Wholes) -> Four<usize>
+        requires { AllOnCube s × Below (suc (top self.layout.now.picture.width self.layout.now.picture.height)) levels }
+        ensures { result ≡ cube_four self.layout.now.picture.width self.layout.now.picture.height s levels }
+    {
+        each(pairs(spots_in(s), levels), |(s, level)| self.place(s, level))
+    }
+}
 
 // The place of the nearest texel on a face.
-pub fn cube_place(p: Plane, s: Spot) -> usize
-    requires { Sized p × (p.faces ≡ 6) × OnCube s }
-    ensures { result ≡ cube_place p s }
+fn cube_place(on: Level, s: Spot) -> usize
+    requires { (on.plane.faces ≡ 6) × OnCube s }
+    ensures { result ≡ cube_place on.plane s }
 {
-    let x = cube_texel(s.u, p.width);
-    let y = cube_texel(s.v, p.height);
-    place(p, s.face as usize, x, y)
-}
-
-// The same at a level, which is lowered to the top level.
-fn lowered_place(starts: &[u32], width: u32, height: u32, s: Spot, level: u32) -> usize
-    requires { Taken cubemap width height × Started (faces_of cubemap) width height starts.now × OnCube s }
-    ensures { result ≡ lowered_place width height s level }
-{
-    cube_place(lowered(starts, width, height, level), s)
-}
-
-// The places of four lanes, each at its own level.
-pub fn cube_places(starts: &[u32], width: u32, height: u32, s: Spots, levels: Wholes) -> Four
-    requires { Taken cubemap width height × Started (faces_of cubemap) width height starts.now × AllOnCube s }
-    ensures { result ≡ cube_four width height s levels }
-{
-    Four {
-        a: lowered_place(starts, width, height, spot_a(s), levels.a),
-        b: lowered_place(starts, width, height, spot_b(s), levels.b),
-        c: lowered_place(starts, width, height, spot_c(s), levels.c),
-        d: lowered_place(starts, width, height, spot_d(s), levels.d),
-    }
+    let x = cube_texel(s.u, on.plane.width);
+    let y = cube_texel(s.v, on.plane.height);
+    on.place(s.face as usize, x, y)
 }

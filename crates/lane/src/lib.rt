@@ -2,11 +2,10 @@
 #![tactic(auto)]
 
 pub mod bilinear;
-mod corners;
 pub mod cubemap;
+pub mod level;
 pub mod nearest;
 pub mod pixel;
-pub mod plane;
 pub mod reading;
-mod spots;
+pub mod spots;
 pub mod trilinear;

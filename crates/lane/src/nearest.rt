@@ -1,25 +1,26 @@
 // The nearest lookup: the texel at floor(u * width), floor(v * height), wrapped into the level.
 ghost use Rattle.std.specs.Prelude.{◌≡◌};
 ghost use Rattle.rules.proofs.RefusingLookups.{Coordinates};
-ghost use Rattle.places.specs.Sized.{Sized};
 ghost use Rattle.lane.specs.Reading.{nearest_four};
 
-use crate::reading::Four;
+use crate::reading::places;
 use places::axis::nearest_four;
-use places::place::place;
-use rules::{Lanes, Mode, Plane};
+use places::place::Level;
+use places::wrap::Wrapping;
+use rules::{Four, Lanes, Wholes};
 
-// The places of four lanes.
-pub fn nearest_places(p: Plane, s: Mode, t: Mode, u: Lanes, v: Lanes) -> Four
-    requires { Sized p × Coordinates u v }
-    ensures { result ≡ nearest_four p s t u v }
+// The places of four lanes, all on the first face.
+pub fn nearest_places(on: Level, by: Wrapping, u: Lanes, v: Lanes) -> Four<usize>
+    requires { Coordinates u v }
+    ensures { result ≡ nearest_four on.plane by.s by.t u v }
 {
-    let x = nearest_four(s, u, p.width);
-    let y = nearest_four(t, v, p.height);
-    Four {
-        a: place(p, 0, x.a as usize, y.a as usize),
-        b: place(p, 0, x.b as usize, y.b as usize),
-        c: place(p, 0, x.c as usize, y.c as usize),
-        d: place(p, 0, x.d as usize, y.d as usize),
-    }
+    let first = Wholes {
+        a: 0,
+        b: 0,
+        c: 0,
+        d: 0,
+    };
+    let x = nearest_four(by.s, u, on.plane.width);
+    let y = nearest_four(by.t, v, on.plane.height);
+    places(on, first, x, y)
 }

@@ -1,15 +1,15 @@
 // What a texel is to a lookup: its channels unpacked.
-ghost use Rattle.std.specs.Prelude.{◌≡◌, ◌<◌, length, get_or};
-ghost use Rattle.rules.specs.Lanes.{rgb_lanes};
+ghost use Rattle.std.specs.Prelude.{◌≡◌};
 ghost use Rattle.rules.specs.Places.{rgb_of, opacity_of};
 ghost use Rattle.lane.specs.Reading.{Inside, read_rgb, read_alpha};
 
-use crate::reading::Four;
-use rules::{Directions, Lanes, Rgb};
+use choice::lanes::each;
+use rules::{Directions, Four, Lanes, Rgb};
 use texel::bytes::{alpha, blue, green, red};
 use texel::packing::unpack;
 
 // A texel's colour.
+#[tactic(auto, unfolding(rules::specs::Places::rgb_of))]
 pub fn rgb(texel: u32) -> Rgb
     ensures { result ≡ rgb_of texel }
 {
@@ -21,75 +21,32 @@ pub fn rgb(texel: u32) -> Rgb
 }
 
 // A texel's alpha.
+#[tactic(auto, unfolding(rules::specs::Places::opacity_of))]
 pub fn opacity(texel: u32) -> f32
     ensures { result ≡ opacity_of texel }
 {
     unpack(alpha(texel))
 }
 
-// The colour of the texel at a place.
-fn rgb_at(texels: &[u32], place: usize) -> Rgb
-    requires { place < length texels.now }
-    ensures { result ≡ rgb_of (get_or texels.now place 0) }
-{
-    rgb(texels[place])
-}
-
-// The alpha of the texel at a place.
-fn opacity_at(texels: &[u32], place: usize) -> f32
-    requires { place < length texels.now }
-    ensures { result ≡ opacity_of (get_or texels.now place 0) }
-{
-    opacity(texels[place])
-}
-
-// Four colours, lane by lane.
-fn rgb_lanes(p: Rgb, q: Rgb, r: Rgb, s: Rgb) -> Directions
-    ensures { result ≡ rgb_lanes p q r s }
-{
-    Directions {
-        x: Lanes {
-            a: p.r,
-            b: q.r,
-            c: r.r,
-            d: s.r,
-        },
-        y: Lanes {
-            a: p.g,
-            b: q.g,
-            c: r.g,
-            d: s.g,
-        },
-        z: Lanes {
-            a: p.b,
-            b: q.b,
-            c: r.b,
-            d: s.b,
-        },
-    }
-}
-
 // The colours of four lanes, from their places.
-pub fn rgb_four(texels: &[u32], at: Four) -> Directions
+#[tactic(auto, unfolding(crate::specs::Reading::read_rgb))]
+pub fn rgb_four(texels: &[u32], at: Four<usize>) -> Directions
     requires { Inside texels.now at }
     ensures { result ≡ read_rgb texels.now at }
 {
-    let a = rgb_at(texels, at.a);
-    let b = rgb_at(texels, at.b);
-    let c = rgb_at(texels, at.c);
-    let d = rgb_at(texels, at.d);
-    rgb_lanes(a, b, c, d)
+    let colours = each(at, |i| rgb(texels[i]));
+    Directions {
+        x: each(colours, |c| c.r),
+        y: each(colours, |c| c.g),
+        z: each(colours, |c| c.b),
+    }
 }
 
 // The alphas of four lanes, from their places.
-pub fn opacity_four(texels: &[u32], at: Four) -> Lanes
+#[tactic(auto, unfolding(crate::specs::Reading::read_alpha))]
+pub fn opacity_four(texels: &[u32], at: Four<usize>) -> Lanes
     requires { Inside texels.now at }
     ensures { result ≡ read_alpha texels.now at }
 {
-    Lanes {
-        a: opacity_at(texels, at.a),
-        b: opacity_at(texels, at.b),
-        c: opacity_at(texels, at.c),
-        d: opacity_at(texels, at.d),
-    }
+    each(at, |i| opacity(texels[i]))
 }

@@ -1,31 +1,19 @@
-// The places of four lanes.
+// The places of four lanes in a level.
 ghost use Rattle.std.specs.Prelude.{◌≡◌};
+ghost use Rattle.places.specs.Sized.{Below};
+ghost use Rattle.lane.specs.Reading.{places_of};
 
-use rules::Lanes;
+use choice::lanes::{each, pairs};
+use places::place::Level;
+use rules::{Four, Wholes};
 
-// Four places in the chain.
-#[derive(Clone, Copy)]
-pub struct Four {
-    pub a: usize,
-    pub b: usize,
-    pub c: usize,
-    pub d: usize,
-}
-
-// The places of four bilinear lookups and their weights, the lanes side by side.
-#[derive(Clone, Copy)]
-pub struct FourCorners {
-    pub p00: Four,
-    pub p10: Four,
-    pub p01: Four,
-    pub p11: Four,
-    pub fx: Lanes,
-    pub fy: Lanes,
-}
-
-// Four places in one record.
-pub fn as_four(a: usize, b: usize, c: usize, d: usize) -> Four
-    ensures { result ≡ record { a = a; b = b; c = c; d = d } }
+// Each lane's texel (x, y) on its own face.
+#[tactic(auto, unfolding(crate::specs::Reading::places_of))]
+pub fn places(on: Level, faces: Wholes, x: Wholes, y: Wholes) -> Four<usize>
+    requires { Below on.plane.faces faces × Below on.plane.width x × Below on.plane.height y }
+    ensures { result ≡ places_of on.plane faces x y }
 {
-    Four { a, b, c, d }
+    each(pairs(faces, pairs(x, y)), |(face, (x, y))| {
+        on.place(face as usize, x as usize, y as usize)
+    })
 }

@@ -1,45 +1,26 @@
-// One lane of four places on the cube.
+// Four places on the cube, side by side and lane by lane.
 ghost use Rattle.std.specs.Prelude.{◌≡◌};
-ghost use Rattle.lane.specs.Cubes.{spot_a, spot_b, spot_c, spot_d};
+ghost use Rattle.rules.specs.Answers.{spots_of};
+ghost use Rattle.lane.specs.Cubes.{spots_in};
 
-use rules::{Spot, Spots};
+use choice::lanes::{each, pairs};
+use rules::{Four, Spot, Spots};
 
-pub fn spot_a(s: Spots) -> Spot
-    ensures { result ≡ spot_a s }
+// Lane by lane.
+pub fn spots_in(s: Spots) -> Four<Spot>
+    ensures { result ≡ spots_in s }
 {
-    Spot {
-        face: s.faces.a,
-        u: s.u.a,
-        v: s.v.a,
-    }
+    each(pairs(s.face, pairs(s.u, s.v)), |(face, (u, v))| Spot { face, u, v })
 }
 
-pub fn spot_b(s: Spots) -> Spot
-    ensures { result ≡ spot_b s }
+// Side by side.
+#[tactic(auto, unfolding(rules::specs::Answers::spots_of))]
+pub fn spots_of(s: Four<Spot>) -> Spots
+    ensures { result ≡ spots_of s.a s.b s.c s.d }
 {
-    Spot {
-        face: s.faces.b,
-        u: s.u.b,
-        v: s.v.b,
-    }
-}
-
-pub fn spot_c(s: Spots) -> Spot
-    ensures { result ≡ spot_c s }
-{
-    Spot {
-        face: s.faces.c,
-        u: s.u.c,
-        v: s.v.c,
-    }
-}
-
-pub fn spot_d(s: Spots) -> Spot
-    ensures { result ≡ spot_d s }
-{
-    Spot {
-        face: s.faces.d,
-        u: s.u.d,
-        v: s.v.d,
+    Spots {
+        face: each(s, |k| k.face),
+        u: each(s, |k| k.u),
+        v: each(s, |k| k.v),
     }
 }

@@ -8,10 +8,10 @@ use native.Mathlib.Nat.{min-le_right}
 use native.Mathlib.Omega.{arith}
 use lib.Dec.{T}
 use lib.Ieee.{Float, binary32, fits}
-use Rattle.rules.specs.declared.Lanes.{Lanes}
-use Rattle.rules.specs.declared.Directions.{Directions}
+use Rattle.rules.specs.Lanes.{Lanes}
+use Rattle.rules.specs.Lanes.{Directions}
 use Rattle.rules.specs.declared.Plane.{Plane}
-use Rattle.rules.specs.declared.Spot.{Spot}
+use Rattle.rules.specs.Lanes.{Spot}
 use Rattle.rules.specs.Kinds.{cubemap, faces_of}
 use Rattle.rules.specs.Sizes.{top}
 use Rattle.rules.specs.Floats.{Between, zero32, one32}

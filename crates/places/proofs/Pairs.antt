@@ -28,7 +28,7 @@ use Rattle.texel.proofs.Fraction.{fraction-in}
 use Rattle.places.proofs.Spans.{upper, up_le, down_le}
 
 -- ---- held to 0..top
-top_in : (n : ℕ) → Between zero32 (float n) (float n)
+pub top_in : (n : ℕ) → Between zero32 (float n) (float n)
 unfolding of_int
 top_in n =
     ends zero refl

@@ -138,7 +138,7 @@ counted t z d e h b =
 
 -- where a coordinate stands, from the floor of x_f
 pub stands : (u : Float) (w : ℕ) → T (coordinate_taken u) → 1 ≤ w → w ≤ 4096 → (t : Float) → t ≡ of_int binary32 (floor_of (span_of u w))
-    → Stands u w (record { here = t; next = add binary32 t one32; part = sub binary32 (span_of u w) t })
+    → Stands u w (record { first = t; second = add binary32 t one32; part = sub binary32 (span_of u w) t })
 unfolding of_bits
 stands u w taken a b t e =
     let z = floor_of (span_of u w) in
@@ -148,4 +148,4 @@ stands u w taken a b t e =
     let here = counted t z w e near b in
     let sum : add binary32 t one32 ≡ of_int binary32 (z +ℤ pos 1) = add-int binary32 t one32 z (pos 1) (subst (λ (x : Float). IsInt x z) (sym e) (int_is binary32 z (omega arith))) (refl, refl) (omega arith) (lit≤ tt) (omega arith) in
     let next = counted (add binary32 t one32) (z +ℤ pos 1) w sum after b in
-    record { here = here.0; next = next.0; floor = here.1; after = next.1; rest = ap (sub binary32 (span_of u w)) e }
+    record { first = here.0; second = next.0; floor = here.1; after = next.1; rest = ap (sub binary32 (span_of u w)) e }

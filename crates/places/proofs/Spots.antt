@@ -13,7 +13,7 @@ use lib.Ieee.Scale.{finite}
 use lib.Ieee.Positive.{positive, between}
 use Rattle.rules.specs.Floats.{Between, zero32, magnitude}
 use Rattle.rules.specs.Faces.{low60, high60, direction_taken, sign_of, odd_of, on_face, spot_at, spot_of}
-use Rattle.rules.specs.declared.Spot.{Spot}
+use Rattle.rules.specs.Lanes.{Spot}
 use Rattle.texel.proofs.Range.{le-trans-finite, neg-finite}
 use Rattle.texel.proofs.Unit.{on-face-in}
 use Rattle.texel.proofs.Total.{le-or-lt, lt-le}

@@ -15,7 +15,7 @@ use mir.Syntax.{w32}
 use mir.Val.{to_z, of_z}
 use mir.ValLaws.{to_z_pos}
 use borrow.Author.Tests.{ltb-false}
-use Rattle.rules.specs.declared.Lanes.{Lanes}
+use Rattle.rules.specs.Lanes.{Lanes}
 use Rattle.rules.specs.declared.Mode.{Mode}
 use Rattle.rules.specs.declared.Mode.TheVariants.{Repeat, Clamp, Mirror}
 use Rattle.rules.specs.Floats.{Between, zero32, one32, two32, float}
@@ -157,10 +157,10 @@ module _ (t : Float) (d : ℕ) (k : Counted t d) (a : 1 ≤ d) (b : d ≤ 4096) 
 -- ---- four lanes' wrapped numbers lie in their side
 pub nearests-below : (mode : Mode) (u : Lanes) (w : ℕ) → 1 ≤ w → Below w (nearests_of mode u w)
 unfolding nearests_of
-nearests-below mode u w h = let at : (t : ℤ) → wrap_of mode t w < w = λ t. wrap-lt mode t w h in record { in-a = at _; in_b = at _; in_c = at _; in-d = at _ }
+nearests-below mode u w h = let at : (t : ℤ) → wrap_of mode t w < w = λ t. wrap-lt mode t w h in record { a = at _; b = at _; c = at _; d = at _ }
 
 pub axes-below : (mode : Mode) (u : Lanes) (w : ℕ) → 1 ≤ w → Below w (axes_of mode u w).first × Below w (axes_of mode u w).second
 unfolding axes_of axis_of
 axes-below mode u w h =
     let at : (t : ℤ) → wrap_of mode t w < w = λ t. wrap-lt mode t w h in
-    (record { in-a = at _; in_b = at _; in_c = at _; in-d = at _ }, record { in-a = at _; in_b = at _; in_c = at _; in-d = at _ })
+    (record { a = at _; b = at _; c = at _; d = at _ }, record { a = at _; b = at _; c = at _; d = at _ })

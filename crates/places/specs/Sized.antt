@@ -1,7 +1,8 @@
 -- What a level must be for its places to be worked out. Definitions only.
 use Rattle.std.specs.Prelude.{ℕ, ◌≤◌, ◌<◌}
-use Rattle.rules.specs.declared.Wholes.{Wholes}
+use Rattle.rules.specs.Lanes.{Wholes}
 use Rattle.rules.specs.declared.Plane.{Plane}
+use Rattle.choice.specs.Each.{InEach}
 
 -- up to six faces of sides 1 to 4,096, in a chain that starts as far in as any chain goes
 pub record Sized (p : Plane) : Type 0 where
@@ -14,8 +15,5 @@ pub record Sized (p : Plane) : Type 0 where
   pub most-h : p.height ≤ 4096
 
 -- four numbers below n
-pub record Below (n : ℕ) (f : Wholes) : Type 0 where
-  pub in-a : f.a < n
-  pub in_b : f.b < n
-  pub in_c : f.c < n
-  pub in-d : f.d < n
+abbrev pub Below : ℕ → Wholes → Type 0
+Below n f = InEach (λ k. k < n) f

@@ -1,7 +1,7 @@
 -- Which magnitudes are taken, and what is true of a place on the cube. Definitions only.
 use Rattle.std.specs.Prelude.{Bool, ◌&&◌, ◌||◌, ◌<◌, Float}
 use Rattle.std.specs.Float.Ieee.{le}
-use Rattle.rules.specs.declared.Spot.{Spot}
+use Rattle.rules.specs.Lanes.{Spot}
 use Rattle.rules.specs.Floats.{Between, zero32, one32}
 use Rattle.rules.specs.Faces.{low60, high60}
 

@@ -7,7 +7,8 @@ ghost use Rattle.rules.proofs.RefusingLookups.{EachLane};
 ghost use Rattle.places.specs.Stands.{Counted, nearests_of, Stands, axes_of};
 
 use crate::wrap::wrap_four;
-use rules::{Lanes, Mode, Wholes};
+use choice::lanes::each;
+use rules::{Axis, Lanes, Mode, Wholes};
 
 // Nearest: t = floor(u * width).
 fn nearest_texel(u: f32, width: u32) -> f32
@@ -18,81 +19,42 @@ fn nearest_texel(u: f32, width: u32) -> f32
 }
 
 // The texels of the nearest lookup along a side: t of four lanes, wrapped.
+#[tactic(auto, unfolding(crate::specs::Stands::nearests_of, crate::specs::Stands::wraps_of))]
 pub fn nearest_four(mode: Mode, u: Lanes, width: usize) -> Wholes
     requires { EachLane coordinate_taken u × (1 ≤ width) × (width ≤ 4096) }
     ensures { result ≡ nearests_of mode u width }
 {
     let side = width as u32;
-    let t = Lanes {
-        a: nearest_texel(u.a, side),
-        b: nearest_texel(u.b, side),
-        c: nearest_texel(u.c, side),
-        d: nearest_texel(u.d, side),
-    };
+    let t = each(u, |x| nearest_texel(x, side));
     wrap_four(mode, t, side)
 }
 
 // Where a coordinate stands: its texel number, the next, and how far it lies above.
-#[derive(Clone, Copy)]
-struct Stand {
-    here: f32,
-    next: f32,
-    part: f32,
-}
-
-// Four lanes' texel numbers along a side, the next ones, and how far each lane lies above.
-#[derive(Clone, Copy)]
-pub struct Axes {
-    pub first: Wholes,
-    pub second: Wholes,
-    pub part: Lanes,
-}
-
 // x_f = u * width - 0.5, x0 = floor, x1 = x0 + 1; fx = x_f - x0.
-fn standing(u: f32, width: u32) -> Stand
+fn standing(u: f32, width: u32) -> Axis<f32, f32>
     requires { T (coordinate_taken u) × (1 ≤ width) × (width ≤ 4096) }
     ensures { Stands u width result }
 {
     let x = u * (width as f32) - 0.5;
-    let here = texel::whole::floor(x);
-    Stand {
-        here,
-        next: here + 1.0,
-        part: x - here,
+    let first = texel::whole::floor(x);
+    Axis {
+        first,
+        second: first + 1.0,
+        part: x - first,
     }
 }
 
 // x0 and x1 of four lanes, wrapped; and fx.
-pub fn four_axes(mode: Mode, u: Lanes, width: usize) -> Axes
+#[tactic(auto, unfolding(crate::specs::Stands::axes_of, crate::specs::Stands::wraps_of, rules::specs::Bilinear::axis_of))]
+pub fn four_axes(mode: Mode, u: Lanes, width: usize) -> Axis<Wholes, Lanes>
     requires { EachLane coordinate_taken u × (1 ≤ width) × (width ≤ 4096) }
     ensures { result ≡ axes_of mode u width }
 {
     let side = width as u32;
-    let a = standing(u.a, side);
-    let b = standing(u.b, side);
-    let c = standing(u.c, side);
-    let d = standing(u.d, side);
-    let here = Lanes {
-        a: a.here,
-        b: b.here,
-        c: c.here,
-        d: d.here,
-    };
-    let next = Lanes {
-        a: a.next,
-        b: b.next,
-        c: c.next,
-        d: d.next,
-    };
-    let part = Lanes {
-        a: a.part,
-        b: b.part,
-        c: c.part,
-        d: d.part,
-    };
-    Axes {
-        first: wrap_four(mode, here, side),
-        second: wrap_four(mode, next, side),
-        part,
+    let at = each(u, |x| standing(x, side));
+    Axis {
+        first: wrap_four(mode, each(at, |x| x.first), side),
+        second: wrap_four(mode, each(at, |x| x.second), side),
+        part: each(at, |x| x.part),
     }
 }

@@ -5,6 +5,7 @@ ghost use Rattle.rules.specs.Bilinear.{weights_of, blend_of, mix_of, blend_alpha
 use rules::Weights;
 
 // The products of the weights fx and 1 - fx, fy and 1 - fy.
+#[tactic(auto, unfolding(rules::specs::Bilinear::weights_of))]
 pub fn weigh(fx: f32, fy: f32) -> Weights
     ensures { result ≡ weights_of fx fy }
 {
@@ -19,6 +20,7 @@ pub fn weigh(fx: f32, fy: f32) -> Weights
 }
 
 // RGB adds p00, p10, p01, p11, each times its weight product, left to right.
+#[tactic(auto, unfolding(rules::specs::Bilinear::blend_of))]
 pub fn blend(w: Weights, p00: f32, p10: f32, p01: f32, p11: f32) -> f32
     ensures { result ≡ blend_of w p00 p10 p01 p11 }
 {
@@ -33,6 +35,7 @@ fn mix(a: f32, b: f32, f: f32) -> f32
 }
 
 // Alpha blends along x first and then along y.
+#[tactic(auto, unfolding(rules::specs::Bilinear::blend_alpha))]
 pub fn blend_alpha(fx: f32, fy: f32, p00: f32, p10: f32, p01: f32, p11: f32) -> f32
     ensures { result ≡ blend_alpha fx fy p00 p10 p01 p11 }
 {

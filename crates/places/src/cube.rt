@@ -1,8 +1,8 @@
 // The texel along a face's side, and the two levels of a fractional level.
-ghost use Rattle.std.specs.Prelude.{◌≡◌, ◌≤◌, ◌<◌, min, T};
+ghost use Rattle.std.specs.Prelude.{◌≡◌, ◌≤◌, ◌<◌, T};
 ghost use Rattle.std.specs.Float.Ieee.Scale.{finite};
 ghost use Rattle.rules.specs.Floats.{Between, zero32, one32};
-ghost use Rattle.rules.specs.Cubemap.{cube_texel, hold_of, pairing_of, lerp_of};
+ghost use Rattle.rules.specs.Cubemap.{cube_texel, pairing_of, lerp_of};
 
 use rules::Pairing;
 
@@ -14,34 +14,17 @@ pub fn cube_texel(u: f32, width: usize) -> usize
     texel::whole::round_even(u * ((width - 1) as u32 as f32)) as usize
 }
 
-// A fractional level held to 0..top.
-fn hold(x: f32, top: f32) -> f32
-    ensures { result ≡ hold_of x top }
-{
-    if x < 0.0 {
-        return 0.0;
-    }
-    if top < x { top } else { x }
-}
-
-// The smaller of two level numbers.
-fn lower(a: usize, b: usize) -> usize
-    ensures { result ≡ min a b }
-{
-    if a < b { a } else { b }
-}
-
 // Lower level l, upper min(l + 1, top), and how far the level lies between them.
-pub fn pairing(fraction: f32, top: usize) -> Pairing
+pub fn pairing(fraction: f32, top: usize) -> Pairing<usize, f32>
     requires { T (finite fraction) × (top ≤ 12) }
     ensures { (result ≡ pairing_of fraction top) × (result.low ≤ top) × (result.high ≤ top) × Between zero32 result.part one32 }
 {
-    let held = hold(fraction, top as u32 as f32);
+    let held = fraction.clamp(0.0, top as u32 as f32);
     let l = texel::whole::floor_near(held);
     let low = l as u32 as usize;
     Pairing {
         low,
-        high: lower(low + 1, top),
+        high: (low + 1).min(top),
         part: held - l,
     }
 }

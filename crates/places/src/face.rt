@@ -4,10 +4,10 @@ ghost use Rattle.rules.specs.Floats.{magnitude as magnitude_of};
 ghost use Rattle.rules.specs.Faces.{direction_taken, sign_of, odd_of, on_face, spot_of};
 ghost use Rattle.places.specs.Spots.{sizes_taken, OnCube};
 
-use choice::{both, either, pick, pick_face};
+use choice::pick;
 use rules::Spot;
 
-// Where a direction meets the cube, and whether it is a direction that is taken.
+// Where a direction meets the cube, and whether it is a direction that is taken: no Option, since four lanes' places are joined with no branch.
 #[derive(Clone, Copy)]
 pub struct Meeting {
     pub spot: Spot,
@@ -20,6 +20,7 @@ const LOW: f32 = 0.0000000000000000008673617379884035;
 const HIGH: f32 = 1152921504606846976.0;
 
 // |x|; of -0 it is -0, which compares as 0 does.
+#[tactic(auto, unfolding(rules::specs::Floats::magnitude))]
 fn magnitude(x: f32) -> f32
     ensures { result ≡ magnitude_of x }
 {
@@ -30,11 +31,12 @@ fn magnitude(x: f32) -> f32
 fn sizes_taken(ax: f32, ay: f32, az: f32) -> bool
     ensures { result ≡ sizes_taken ax ay az }
 {
-    let low = either(ax >= LOW, either(ay >= LOW, az >= LOW));
-    both(ax <= HIGH, both(ay <= HIGH, both(az <= HIGH, low)))
+    let low = (ax >= LOW) | ((ay >= LOW) | (az >= LOW));
+    (ax <= HIGH) & ((ay <= HIGH) & ((az <= HIGH) & low))
 }
 
 // 1 for a component >= 0, -0 included, and -1 for one below.
+#[tactic(auto, unfolding(rules::specs::Faces::sign_of))]
 fn sign(x: f32) -> f32
     ensures { result ≡ sign_of x }
 {
@@ -42,6 +44,7 @@ fn sign(x: f32) -> f32
 }
 
 // 0 for a component >= 0, -0 included, and 1 for one below: the odd face.
+#[tactic(auto, unfolding(rules::specs::Faces::odd_of))]
 fn odd(x: f32) -> u32
     ensures { (result ≡ odd_of x) × (result ≤ 1) }
 {
@@ -61,13 +64,13 @@ fn spot(x: f32, y: f32, z: f32, ax: f32, ay: f32, az: f32) -> Spot
     requires { (ax ≡ magnitude_of x) × (ay ≡ magnitude_of y) × (az ≡ magnitude_of z) }
     ensures { result ≡ spot_of x y z }
 {
-    let on_x = both(ax >= ay, ax >= az);
-    let on_y = both(ay > ax, ay >= az);
+    let on_x = (ax >= ay) & (ax >= az);
+    let on_y = (ay > ax) & (ay >= az);
     let q = pick(on_x, -z * sign(x), pick(on_y, x, x * sign(z)));
     let p = pick(on_x, -y, pick(on_y, z * sign(y), -y));
     let major = pick(on_x, ax, pick(on_y, ay, az));
     Spot {
-        face: pick_face(on_x, odd(x), pick_face(on_y, 2 + odd(y), 4 + odd(z))),
+        face: pick(on_x, odd(x), pick(on_y, 2 + odd(y), 4 + odd(z))),
         u: on_face(q, major),
         v: on_face(p, major),
     }

@@ -1,18 +1,10 @@
 // The footprint of four steps, and the level that it asks for.
 ghost use Rattle.std.specs.Prelude.{◌≡◌, ◌≤◌};
-ghost use Rattle.std.specs.Float.Ieee.Scale.{finite};
 ghost use Rattle.rules.specs.Sizes.{top as top_of};
 ghost use Rattle.rules.specs.Footprint.{footprint_of, four_of, mip_level_of};
 
-use choice::{pick, smaller};
+use choice::pick;
 use rules::Lanes;
-
-// Neither a NaN nor an infinity: both of those times 0 are a NaN.
-pub fn is_finite(x: f32) -> bool
-    ensures { result ≡ finite x }
-{
-    x * 0.0 == 0.0
-}
 
 // X, Y the first two steps times width and Z, W the last two times height: ((X*X + Z*Z) + (Y*Y + W*W)) * 0.5.
 pub fn footprint(width: u32, height: u32, steps: Lanes) -> f32
@@ -34,7 +26,7 @@ fn greatest_four(footprint: f32, top: u32) -> u32
     ensures { result ≡ four_of top footprint }
 {
     let held = pick(1.0 < footprint, footprint, 1.0);
-    smaller((f32::to_bits(held) / 8388608 - 127) / 2, top)
+    ((f32::to_bits(held) / 8388608 - 127) / 2).min(top)
 }
 
 // The greatest m with 4^m at most max(footprint, 1), lowered to the top level.

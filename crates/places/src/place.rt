@@ -1,9 +1,29 @@
 // A texel's place in the chain. Every place that is read goes through here.
 ghost use Rattle.std.specs.Prelude.{◌≡◌, ◌+◌, ◌*◌, ◌≤◌, ◌<◌};
-ghost use Rattle.rules.specs.Places.{place_of, InLevel};
 ghost use Rattle.places.specs.Sized.{Sized};
 
 use rules::Plane;
+
+// A level of which each texel has a place.
+#[derive(Clone, Copy)]
+pub struct Level {
+    pub plane: Plane,
+    pub ghost sized: { Sized plane },
+}
+
+impl Level {
+    ghost use Rattle.rules.specs.Places.{place_of, InLevel};
+
+    // Texel (x, y) of face f as a place in the chain.
+    #[tactic(auto, unfolding(rules::specs::Places::place_of))]
+    pub fn place(self, f: usize, x: usize, y: usize) -> usize
+        requires { InLevel self.plane f x y }
+        ensures { result ≡ place_of self.plane f x y }
+    {
+        let plane = self.plane;
+        plane.start + inside(plane.width, plane.height, f, x, y)
+    }
+}
 
 // Texel (x, y) of face f as a place in its level.
 fn inside(w: usize, h: usize, f: usize, x: usize, y: usize) -> usize
@@ -11,12 +31,4 @@ fn inside(w: usize, h: usize, f: usize, x: usize, y: usize) -> usize
     ensures { (result ≡ (f * h + y) * w + x) × (result < 100663296) }
 {
     (f * h + y) * w + x
-}
-
-// Texel (x, y) of face f as a place in the chain.
-pub fn place(p: Plane, f: usize, x: usize, y: usize) -> usize
-    requires { Sized p × InLevel p f x y }
-    ensures { result ≡ place_of p f x y }
-{
-    p.start + inside(p.width, p.height, f, x, y)
 }

@@ -2,68 +2,49 @@
 ghost use Rattle.std.specs.Prelude.{◌≡◌};
 ghost use Rattle.std.specs.Float.Ieee.Scale.{finite};
 ghost use Rattle.rules.specs.Lanes.{in_lanes};
-ghost use Rattle.rules.specs.Refusals.{coordinate_taken, wrap_refusal, sampler_refusal, coordinates_refusal, finite_refusal};
+ghost use Rattle.rules.specs.Refusals.{coordinate_taken, coordinates_refusal, finite_refusal};
+ghost use Rattle.rules.specs.Answers.{told};
 
 use crate::coordinate::coordinate_taken;
-use crate::level::is_finite;
-use crate::wrap::wrap_code;
-use choice::{all_four, both, or_else, unless};
-use rules::{Lanes, Sampler, Wrap};
+use choice::lanes::{all, each};
+use rules::{Lanes, Refusal};
 
 // Whether each of four coordinates is taken.
+#[tactic(auto, unfolding(rules::specs::Lanes::in_lanes))]
 fn coordinates_taken(u: Lanes) -> bool
     ensures { result ≡ in_lanes coordinate_taken u }
 {
-    all_four(
-        coordinate_taken(u.a),
-        coordinate_taken(u.b),
-        coordinate_taken(u.c),
-        coordinate_taken(u.d),
-    )
+    all(each(u, |x| coordinate_taken(x)))
 }
 
 // 5: a coordinate is not finite, or its magnitude is above 2,048.
-pub fn coordinates_refusal(u: Lanes, v: Lanes) -> u32
-    ensures { result ≡ coordinates_refusal u v }
+#[tactic(auto, unfolding(rules::specs::Refusals::coordinates_refusal, rules::specs::Refusals::refusal_of, rules::specs::Answers::answer))]
+pub fn check_coordinates(u: Lanes, v: Lanes) -> Result<(), Refusal>
+    ensures { result ≡ told (coordinates_refusal u v) }
 {
-    unless(both(coordinates_taken(u), coordinates_taken(v)), 5)
-}
-
-// Whether each of four numbers is finite.
-fn all_finite(l: Lanes) -> bool
-    ensures { result ≡ in_lanes finite l }
-{
-    all_four(
-        is_finite(l.a),
-        is_finite(l.b),
-        is_finite(l.c),
-        is_finite(l.d),
-    )
-}
-
-// 5: a step or fractional level is not finite.
-pub fn finite_refusal(l: Lanes) -> u32
-    ensures { result ≡ finite_refusal l }
-{
-    unless(all_finite(l), 5)
-}
-
-// 4: wrap code unknown.
-fn wrap_refusal(wrap: Wrap) -> u32
-    ensures { result ≡ wrap_refusal wrap }
-{
-    match wrap {
-        Wrap::By(_) => 0,
-        Wrap::Refused(n) => n,
+    if coordinates_taken(u) & coordinates_taken(v) {
+        Ok(())
+    } else {
+        Err(Refusal::NumberOutside)
     }
 }
 
-// 4: one of the two wrap codes unknown.
-pub fn sampler_refusal(s: Sampler) -> u32
-    ensures { result ≡ sampler_refusal s }
+// Whether each of four numbers is finite.
+#[tactic(auto, using(crate::proofs::Finites::finite_is), unfolding(rules::specs::Lanes::in_lanes))]
+fn all_finite(l: Lanes) -> bool
+    ensures { result ≡ in_lanes finite l }
 {
-    or_else(
-        wrap_refusal(wrap_code(s.wrap_s)),
-        wrap_refusal(wrap_code(s.wrap_t)),
-    )
+    all(each(l, |x| x.is_finite()))
+}
+
+// 5: a step or fractional level is not finite.
+#[tactic(auto, unfolding(rules::specs::Refusals::finite_refusal, rules::specs::Refusals::refusal_of, rules::specs::Answers::answer))]
+pub fn check_finite(l: Lanes) -> Result<(), Refusal>
+    ensures { result ≡ told (finite_refusal l) }
+{
+    if all_finite(l) {
+        Ok(())
+    } else {
+        Err(Refusal::NumberOutside)
+    }
 }

@@ -1,28 +1,39 @@
-// A wrap code to a mode, and texel numbers wrapped into a side: f32 numbers that are whole, so that four lanes are wrapped side by side.
+// Two wrap codes to modes, and texel numbers wrapped into a side: f32 numbers that are whole, so that four lanes are wrapped side by side.
 ghost use Rattle.std.specs.Prelude.{◌≡◌, ◌≤◌};
 ghost use Rattle.std.specs.Float.{binary32};
 ghost use Rattle.std.specs.Float.Ieee.{div};
 ghost use Rattle.rules.specs.declared.Mode.TheVariants.{Repeat, Clamp, Mirror};
 ghost use Rattle.rules.specs.Floats.{Between};
 ghost use Rattle.rules.specs.Whole.{floor_of};
-ghost use Rattle.rules.specs.Wrapping.{wrap_code, wrap_of};
+ghost use Rattle.rules.specs.Wrapping.{wrap_of};
 ghost use Rattle.texel.specs.Ends.{low12, high12};
 ghost use Rattle.places.specs.Sources.{least as least_of, most as most_of, rest_source};
+ghost use Rattle.places.specs.Samplers.{sampler_decodes};
 ghost use Rattle.places.specs.Stands.{Counted, AllCounted, wraps_of};
 
+use choice::lanes::each;
 use choice::pick;
-use rules::{Lanes, Mode, Wholes, Wrap};
+use rules::{Lanes, Mode, Refusal, Sampler, Wholes};
 
-// 10497 Repeat, 33071 ClampToEdge, 33648 MirroredRepeat, 0 not given; refusal 4 for every other code.
-pub fn wrap_code(code: u32) -> Wrap
-    ensures { result ≡ wrap_code code }
-{
-    match code {
-        10497 => Wrap::By(Mode::Repeat),
-        33071 => Wrap::By(Mode::Clamp),
-        33648 => Wrap::By(Mode::Mirror),
-        0 => Wrap::By(Mode::Repeat),
-        _ => Wrap::Refused(4),
+// The modes along u and along v.
+#[derive(Clone, Copy)]
+pub struct Wrapping {
+    pub s: Mode,
+    pub t: Mode,
+}
+
+// Refusal 4: one of the two wrap codes unknown.
+impl TryFrom<Sampler> for Wrapping {
+    type Error = Refusal;
+
+    ghost try_from_gives = { sampler_decodes };
+
+    #[tactic(auto, using(rules::proofs::Answering::answer_or, rules::proofs::Answering::answer_as), unfolding(rules::specs::Refusals::sampler_refusal, crate::specs::Samplers::wrapping_of))]
+    fn try_from(sampler: Sampler) -> Result<Self, Refusal> {
+        Ok(Wrapping {
+            s: Mode::try_from(sampler.wrap_s)?,
+            t: Mode::try_from(sampler.wrap_t)?,
+        })
     }
 }
 
@@ -75,28 +86,14 @@ fn mirrored(t: f32, d: u32) -> u32
 }
 
 // Each of four texel numbers wrapped into the side d: the remainder, t held to the side, or mirrored.
+#[tactic(auto, unfolding(crate::specs::Stands::wraps_of))]
 pub fn wrap_four(mode: Mode, t: Lanes, d: u32) -> Wholes
     requires { AllCounted t d × (1 ≤ d) × (d ≤ 4096) }
     ensures { result ≡ wraps_of mode t d }
 {
     match mode {
-        Mode::Repeat => Wholes {
-            a: repeated(t.a, d),
-            b: repeated(t.b, d),
-            c: repeated(t.c, d),
-            d: repeated(t.d, d),
-        },
-        Mode::Clamp => Wholes {
-            a: held(t.a, d),
-            b: held(t.b, d),
-            c: held(t.c, d),
-            d: held(t.d, d),
-        },
-        Mode::Mirror => Wholes {
-            a: mirrored(t.a, d),
-            b: mirrored(t.b, d),
-            c: mirrored(t.c, d),
-            d: mirrored(t.d, d),
-        },
+        Mode::Repeat => each(t, |x| repeated(x, d)),
+        Mode::Clamp => each(t, |x| held(x, d)),
+        Mode::Mirror => each(t, |x| mirrored(x, d)),
     }
 }

@@ -7,8 +7,8 @@ use Rattle.rules.specs.declared.Refusal.{Refusal}
 use Rattle.rules.specs.declared.Kind.{Kind}
 use Rattle.rules.specs.declared.Packing.{Packing}
 use Rattle.rules.specs.declared.Mode.{Mode}
-use Rattle.rules.specs.declared.Spot.{Spot}
-use Rattle.rules.specs.declared.Spots.{Spots}
+use Rattle.rules.specs.Lanes.{Spot}
+use Rattle.rules.specs.Lanes.{Spots}
 use Rattle.rules.specs.Kinds.{faces_of, kind_of}
 use Rattle.rules.specs.Sizes.{side_at, start, count}
 use Rattle.rules.specs.Cuts.{cut}
@@ -145,9 +145,9 @@ bilinear_alpha_answer kind w h l sampler u v m =
 unfoldable pub spots_of : Spot → Spot → Spot → Spot → Spots
 spots_of a b c d =
     record {
+      face = record { a = a.face; b = b.face; c = c.face; d = d.face };
       u = lanes_of a.u b.u c.u d.u;
       v = lanes_of a.v b.v c.v d.v;
-      faces = record { a = a.face; b = b.face; c = c.face; d = d.face };
     }
 
 abbrev pub spots_at : Directions → Spots

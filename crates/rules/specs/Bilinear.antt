@@ -18,7 +18,7 @@ abbrev pub span_of : Float → ℕ → Float
 span_of u w = sub binary32 (mul binary32 u (float w)) half32
 
 -- x0 = floor, x1 = x0 + 1, both wrapped; fx = x_f - x0
-unfoldable pub axis_of : Mode → Float → ℕ → Axis
+unfoldable pub axis_of : Mode → Float → ℕ → Axis ℕ Float
 axis_of mode x w =
     record {
       first = wrap_of mode (floor_of x) w;
@@ -27,7 +27,7 @@ axis_of mode x w =
     }
 
 -- the four places p00, p10, p01, p11 of face f, and the weights
-unfoldable pub corners_of : Plane → ℕ → Axis → Axis → Corners
+unfoldable pub corners_of : Plane → ℕ → Axis ℕ Float → Axis ℕ Float → Corners ℕ Float
 corners_of p f x y =
     record {
       p00 = place_of p f x.first y.first;
@@ -38,7 +38,7 @@ corners_of p f x y =
       fy = y.part;
     }
 
-unfoldable pub corners_at : Plane → ℕ → Mode → Mode → Float → Float → Corners
+unfoldable pub corners_at : Plane → ℕ → Mode → Mode → Float → Float → Corners ℕ Float
 corners_at p f s t u v =
     corners_of p f (axis_of s (span_of u p.width) p.width) (axis_of t (span_of v p.height) p.height)
 
@@ -78,11 +78,11 @@ unfoldable pub blend_alpha : Float → Float → Float → Float → Float → F
 blend_alpha fx fy p00 p10 p01 p11 = mix_of (mix_of p00 p10 fx) (mix_of p01 p11 fx) fy
 
 -- what one lane answers from its four places
-unfoldable pub corners_rgb : List ℕ → Corners → Rgb
+unfoldable pub corners_rgb : List ℕ → Corners ℕ Float → Rgb
 corners_rgb l c =
     blend_rgb (weights_of c.fx c.fy) (rgb_of (get_or l c.p00 0)) (rgb_of (get_or l c.p10 0)) (rgb_of (get_or l c.p01 0)) (rgb_of (get_or l c.p11 0))
 
-unfoldable pub corners_alpha : List ℕ → Corners → Float
+unfoldable pub corners_alpha : List ℕ → Corners ℕ Float → Float
 corners_alpha l c =
     blend_alpha c.fx c.fy (opacity_of (get_or l c.p00 0)) (opacity_of (get_or l c.p10 0)) (opacity_of (get_or l c.p01 0)) (opacity_of (get_or l c.p11 0))
 

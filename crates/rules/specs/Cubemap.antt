@@ -3,7 +3,7 @@ use Rattle.std.specs.Prelude.{cond, List, ℕ, ◌+◌, ◌-◌, min, nat_abs, g
 use Rattle.std.specs.Float.{binary32}
 use Rattle.std.specs.Float.Ieee.{add, sub, mul, lt, of_int}
 use Rattle.rules.specs.declared.Plane.{Plane}
-use Rattle.rules.specs.declared.Spot.{Spot}
+use Rattle.rules.specs.Lanes.{Spot}
 use Rattle.rules.specs.declared.Pairing.{Pairing}
 use Rattle.rules.specs.declared.Rgb.{Rgb}
 use Rattle.rules.specs.Kinds.{cubemap}
@@ -32,7 +32,7 @@ unfoldable pub hold_of : Float → Float → Float
 hold_of x most = cond (lt x zero32) zero32 (cond (lt most x) most x)
 
 -- lower level l, upper min(l + 1, top), and how far the level lies between them
-unfoldable pub pairing_of : Float → ℕ → Pairing
+unfoldable pub pairing_of : Float → ℕ → Pairing ℕ Float
 pairing_of x n =
     let held = hold_of x (float n) in
     let l = nat_abs (floor_of held) in
@@ -46,7 +46,7 @@ unfoldable pub lerp_rgb : Rgb → Rgb → Float → Rgb
 lerp_rgb p q t = record { r = lerp_of p.r q.r t; g = lerp_of p.g q.g t; b = lerp_of p.b q.b t }
 
 -- the colours of the two levels, blended
-unfoldable pub between_levels : List ℕ → ℕ → ℕ → Float → Float → Float → Pairing → Rgb
+unfoldable pub between_levels : List ℕ → ℕ → ℕ → Float → Float → Float → Pairing ℕ Float → Rgb
 between_levels l w h x y z m = lerp_rgb (cubemap_rgb l w h x y z m.low) (cubemap_rgb l w h x y z m.high) m.part
 
 -- one lane of the trilinear lookup

@@ -3,7 +3,7 @@ use Rattle.std.specs.Prelude.{Bool, not, cond, ◌&&◌, ◌||◌, ℕ, ◌+◌,
 use Rattle.std.specs.Float.{fin, binary32}
 use Rattle.std.specs.Float.Ieee.{neg, add, mul, div, le, lt}
 use Rattle.std.specs.Float.Ieee.Scale.{finite}
-use Rattle.rules.specs.declared.Spot.{Spot}
+use Rattle.rules.specs.Lanes.{Spot}
 use Rattle.rules.specs.Floats.{zero32, half32, one32, minus1, magnitude}
 
 -- 2^-60 and 2^60

@@ -3,6 +3,7 @@ use Rattle.std.specs.Prelude.{Bool, ◌&&◌, ℕ, Float}
 use Rattle.rules.specs.declared.Four.{Four}
 use Rattle.rules.specs.declared.Vector.{Vector}
 use Rattle.rules.specs.declared.Rgb.{Rgb}
+use Rattle.rules.specs.declared.Met.{Met}
 
 abbrev pub Lanes : Type 0
 Lanes = Four Float
@@ -12,6 +13,13 @@ Wholes = Four ℕ
 
 abbrev pub Directions : Type 0
 Directions = Vector Lanes
+
+-- where one direction meets the cube, and where four do
+abbrev pub Spot : Type 0
+Spot = Met ℕ Float
+
+abbrev pub Spots : Type 0
+Spots = Met Wholes Lanes
 
 abbrev pub lanes_of : Float → Float → Float → Float → Lanes
 lanes_of a b c d = record { a = a; b = b; c = c; d = d }

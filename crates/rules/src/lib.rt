@@ -54,14 +54,6 @@ pub struct LevelSizes {
     pub total: usize,
 }
 
-// Where four directions meet the cube: places on the faces, and the faces.
-#[derive(Clone, Copy)]
-pub struct Spots {
-    pub u: Lanes,
-    pub v: Lanes,
-    pub faces: Wholes,
-}
-
 // Why a call refuses, by document 01's numbers; 9 is retired.
 #[derive(Clone, Copy, Debug, PartialEq, Eq, Hash)]
 pub enum Refusal {
@@ -122,23 +114,24 @@ pub struct Rgb {
     pub b: f32,
 }
 
-// Two texel numbers along a side, wrapped, and how far the coordinate lies from the first to the second.
+// Two texel numbers along a side, and how far the coordinate lies from the first to the second: N numbers and F floats, of one lane or of
+// four, as in the three records below.
 #[derive(Clone, Copy)]
-pub struct Axis {
-    pub first: usize,
-    pub second: usize,
-    pub part: f32,
+pub struct Axis<N, F> {
+    pub first: N,
+    pub second: N,
+    pub part: F,
 }
 
 // The four places of a bilinear lookup, and the two weights.
 #[derive(Clone, Copy)]
-pub struct Corners {
-    pub p00: usize,
-    pub p10: usize,
-    pub p01: usize,
-    pub p11: usize,
-    pub fx: f32,
-    pub fy: f32,
+pub struct Corners<N, F> {
+    pub p00: N,
+    pub p10: N,
+    pub p01: N,
+    pub p11: N,
+    pub fx: F,
+    pub fy: F,
 }
 
 // The four products of the weights.
@@ -150,20 +143,25 @@ pub struct Weights {
     pub w11: f32,
 }
 
-// Where one direction meets the cube.
+// Where a direction meets the cube: the face, and the place on it.
 #[derive(Clone, Copy)]
-pub struct Spot {
-    pub face: u32,
-    pub u: f32,
-    pub v: f32,
+pub struct Met<N, F> {
+    pub face: N,
+    pub u: F,
+    pub v: F,
 }
+
+// Where one direction does, and where four do.
+pub type Spot = Met<u32, f32>;
+
+pub type Spots = Met<Wholes, Lanes>;
 
 // The two levels of a trilinear lookup, and how far the fractional level lies between them.
 #[derive(Clone, Copy)]
-pub struct Pairing {
-    pub low: usize,
-    pub high: usize,
-    pub part: f32,
+pub struct Pairing<N, F> {
+    pub low: N,
+    pub high: N,
+    pub part: F,
 }
 
 // Something for each of the four basis functions.

@@ -7,8 +7,8 @@ use Rattle.places.proofs.axis.standing.Goals as goal
 pub int_to_float-x : goal.int_to_float-x
 int_to_float-x c = side-float c.args.width (let h = c.requires.2 in omega arith)
 
-pub floor-here-requires : goal.floor-here-requires
-floor-here-requires c = span-in c.args.u c.args.width c.requires.0 c.requires.1 c.requires.2
+pub floor-first-requires : goal.floor-first-requires
+floor-first-requires c = span-in c.args.u c.args.width c.requires.0 c.requires.1 c.requires.2
 
 pub returns : goal.returns
-returns c = stands c.args.u c.args.width c.requires.0 c.requires.1 c.requires.2 c.floor-here.result c.floor-here.ensures
+returns c = stands c.args.u c.args.width c.requires.0 c.requires.1 c.requires.2 c.floor-first.result c.floor-first.ensures

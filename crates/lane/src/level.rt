@@ -1,0 +1,27 @@
+// A level of a chain of which it is known where each level starts.
+ghost use Rattle.std.specs.Prelude.{◌≡◌, ◌≤◌, min};
+ghost use Rattle.rules.specs.Kinds.{code_of};
+ghost use Rattle.rules.specs.Sizes.{top};
+ghost use Rattle.rules.specs.Places.{plane_of};
+
+use levels::layout::Layout;
+use places::place::Level;
+
+// A level of the picture.
+pub fn level_at(layout: &Layout, level: u32) -> Level
+    requires { level ≤ top layout.now.picture.width layout.now.picture.height }
+    ensures { result.plane ≡ plane_of (code_of layout.now.picture.kind) layout.now.picture.width layout.now.picture.height level }
+{
+    Level {
+        plane: layout.plane(level),
+    }
+}
+
+// A level that is lowered to the top level.
+pub fn lowered(layout: &Layout, level: u32) -> Level
+    ensures { result.plane ≡ plane_of (code_of layout.now.picture.kind) layout.now.picture.width layout.now.picture.height (min level (top layout.now.picture.width layout.now.picture.height)) }
+{
+    Level {
+        plane: layout.lowered(level),
+    }
+}
