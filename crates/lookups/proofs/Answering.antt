@@ -1,16 +1,15 @@
 -- A call's answer from the places that it reads. Past the refusals the level is one of the picture's, each place is one of the texels that are
 -- lent, and the four one-lane answers are one answer from the places of the four (`Together`). Assumes nothing.
+use Rattle.std.specs.Prelude.{Ok}
 use mathlib.Core.Path.{◌≡◌, sym, ap, ◌∙◌, subst}
 use mathlib.Core.List.{List}
 use Prim.Native.Nat.{ℕ, ◌≤◌}
 use lib.ListN.{length}
-use Rattle.rules.specs.declared.Lanes.{Lanes}
-use Rattle.rules.specs.declared.Wholes.{Wholes}
-use Rattle.rules.specs.declared.Directions.{Directions}
+use Rattle.rules.specs.Lanes.{Lanes}
+use Rattle.rules.specs.Lanes.{Wholes}
+use Rattle.rules.specs.Lanes.{Directions}
 use Rattle.rules.specs.declared.Sampler.{Sampler}
 use Rattle.rules.specs.declared.Spots.{Spots}
-use Rattle.rules.specs.declared.Colour.TheVariants.{Rgb}
-use Rattle.rules.specs.declared.Alpha.TheVariants.{Of}
 use Rattle.rules.specs.Kinds.{cubemap, faces_of}
 use Rattle.rules.specs.Sizes.{top}
 use Rattle.rules.specs.Places.{plane_of}
@@ -27,64 +26,50 @@ use Rattle.lane.specs.Cubes.{cube_four, two_levels, lerp_colours}
 use Rattle.lane.specs.Reading.{Inside, AllWithin, squares_at, read_rgb, read_alpha, blended_rgb, blended_alpha}
 use Rattle.lane.proofs.Holding.{plane-sized, nearest-inside, squares-within}
 use Rattle.lane.proofs.Together.{nearest-colours, nearest-alphas, bilinear-colours, bilinear-alphas, cubemap-colours, trilinear-colours}
-use Rattle.lookups.specs.declared.lookup.Wrapped.{Wrapped}
-use Rattle.lookups.specs.Reads.{wrapped_of, sample4_four}
+use Rattle.lookups.specs.Reads.{sample4_four}
 
 -- ---- by coordinates: q is level m of the picture, with its modes
 pub faces-below : (kind : ℕ) (f : Wholes) → EachWhole (face_taken kind) f → Below (faces_of kind) f
 faces-below kind f e =
     record { in-a = face-below kind _ e.a; in_b = face-below kind _ e.b; in_c = face-below kind _ e.c; in-d = face-below kind _ e.d }
 
-module _ (kind w h m : ℕ) (sampler : Sampler) {q : Wrapped} (e : q ≡ wrapped_of kind w h m sampler) where
-  pub wrapped-sized : Taken kind w h → m ≤ top w h → Sized q.plane
-  unfolding wrapped_of
-  wrapped-sized t below = rw e (plane-sized t below)
-
-  pub wrapped-faces : (f : Wholes) → Below (faces_of kind) f → Below q.plane.faces f
-  unfolding wrapped_of plane_of
-  wrapped-faces f b = rw e b
-
-  pub wrapped-squares : (l : List ℕ) (f : Wholes) (u v : Lanes) → Below (faces_of kind) f → Chained kind w h (length l) → m ≤ top w h → AllWithin l (squares_at q.plane f q.s q.t u v)
-  unfolding wrapped_of
-  wrapped-squares l f u v b c below = rw e (squares-within l m c below _ _ u v f b)
-
 module _ (kind w h : ℕ) (l : List ℕ) (sampler : Sampler) (u v : Lanes) where
-  pub sample4-rgb-read : (steps : Lanes) {f : Four} → sample4_refusal kind w h (length l) sampler u v steps ≡ 0 → f ≡ sample4_four kind w h sampler u v steps → sample4_rgb_answer kind w h l sampler u v steps ≡ Rgb (read_rgb l f)
-  unfolding sample4_rgb_answer sample4_four wrapped_of
-  sample4-rgb-read steps z e = rw e (answer-given _ _ _ z ∙ ap Rgb (nearest-colours l _ _ _ u v))
+  pub sample4-rgb-read : (steps : Lanes) {f : Four ℕ} → sample4_refusal kind w h (length l) sampler u v steps ≡ 0 → f ≡ sample4_four kind w h sampler u v steps → sample4_rgb_answer kind w h l sampler u v steps ≡ Ok (read_rgb l f)
+  unfolding sample4_rgb_answer sample4_four
+  sample4-rgb-read steps z e = rw e (answer-given _ _ _ z ∙ ap Ok (nearest-colours l _ _ _ u v))
 
-  pub sample4-alpha-read : (steps : Lanes) {f : Four} → sample4_refusal kind w h (length l) sampler u v steps ≡ 0 → f ≡ sample4_four kind w h sampler u v steps → sample4_alpha_answer kind w h l sampler u v steps ≡ Of (read_alpha l f)
-  unfolding sample4_alpha_answer sample4_four wrapped_of
-  sample4-alpha-read steps z e = rw e (answer-given _ _ _ z ∙ ap Of (nearest-alphas l _ _ _ u v))
+  pub sample4-alpha-read : (steps : Lanes) {f : Four ℕ} → sample4_refusal kind w h (length l) sampler u v steps ≡ 0 → f ≡ sample4_four kind w h sampler u v steps → sample4_alpha_answer kind w h l sampler u v steps ≡ Ok (read_alpha l f)
+  unfolding sample4_alpha_answer sample4_four
+  sample4-alpha-read steps z e = rw e (answer-given _ _ _ z ∙ ap Ok (nearest-alphas l _ _ _ u v))
 
-  pub sample4-inside : (steps : Lanes) {f : Four} → sample4_refusal kind w h (length l) sampler u v steps ≡ 0 → f ≡ sample4_four kind w h sampler u v steps → Inside l f
-  unfolding sample4_four wrapped_of
+  pub sample4-inside : (steps : Lanes) {f : Four ℕ} → sample4_refusal kind w h (length l) sampler u v steps ≡ 0 → f ≡ sample4_four kind w h sampler u v steps → Inside l f
+  unfolding sample4_four
   sample4-inside steps z e = rw e (nearest-inside l _ (sample4-facts kind w h (length l) sampler u v steps z).chained (mip-below w h steps) _ _ u v)
 
-module _ (kind w h : ℕ) (l : List ℕ) (sampler : Sampler) (u v : Lanes) {q : Wrapped} where
-  pub bilinear-rgb-read : (m : ℕ) (f : Wholes) → bilinear_rgb_refusal kind w h (length l) sampler u v m f ≡ 0 → q ≡ wrapped_of kind w h m sampler → bilinear_rgb_answer kind w h l sampler u v m f ≡ Rgb (blended_rgb l (squares_at q.plane f q.s q.t u v))
-  unfolding bilinear_rgb_answer wrapped_of
-  bilinear-rgb-read m f z e = rw e (answer-given _ _ _ z ∙ ap Rgb (bilinear-colours l _ _ _ u v f))
+module _ (kind w h : ℕ) (l : List ℕ) (sampler : Sampler) (u v : Lanes) where
+  pub bilinear-rgb-read : (m : ℕ) (f : Wholes) → bilinear_rgb_refusal kind w h (length l) sampler u v m f ≡ 0 → bilinear_rgb_answer kind w h l sampler u v m f ≡ Ok (blended_rgb l (squares_at (plane_of kind w h m) f (mode_of sampler.wrap_s) (mode_of sampler.wrap_t) u v))
+  unfolding bilinear_rgb_answer
+  bilinear-rgb-read m f z = (answer-given _ _ _ z ∙ ap Ok (bilinear-colours l _ _ _ u v f))
 
-  pub bilinear-alpha-read : (m : ℕ) → bilinear_alpha_refusal kind w h (length l) sampler u v m ≡ 0 → q ≡ wrapped_of kind w h m sampler → bilinear_alpha_answer kind w h l sampler u v m ≡ Of (blended_alpha l (squares_at q.plane (record { a = 0; b = 0; c = 0; d = 0 }) q.s q.t u v))
-  unfolding bilinear_alpha_answer wrapped_of
-  bilinear-alpha-read m z e = rw e (answer-given _ _ _ z ∙ ap Of (bilinear-alphas l _ _ _ u v))
+  pub bilinear-alpha-read : (m : ℕ) → bilinear_alpha_refusal kind w h (length l) sampler u v m ≡ 0 → bilinear_alpha_answer kind w h l sampler u v m ≡ Ok (blended_alpha l (squares_at (plane_of kind w h m) (record { a = 0; b = 0; c = 0; d = 0 }) (mode_of sampler.wrap_s) (mode_of sampler.wrap_t) u v))
+  unfolding bilinear_alpha_answer
+  bilinear-alpha-read m z = (answer-given _ _ _ z ∙ ap Ok (bilinear-alphas l _ _ _ u v))
 
 -- ---- by directions: s is where they meet the cube
 pub cube-chained : {kind w h n : ℕ} {d : Directions} → Cubed kind w h n d → Chained cubemap w h n
 cube-chained {w = w} {h = h} {n = n} f = subst (λ (k : ℕ). Chained k w h n) f.cube f.chained
 
 module _ (kind w h : ℕ) (l : List ℕ) (d : Directions) {s : Spots} where
-  pub cubemap-read : (m : Wholes) → cubemap_refusal kind w h (length l) d ≡ 0 → s ≡ spots_at d → cubemap_answer kind w h l d m ≡ Rgb (read_rgb l (cube_four w h s m))
+  pub cubemap-read : (m : Wholes) → cubemap_refusal kind w h (length l) d ≡ 0 → s ≡ spots_at d → cubemap_answer kind w h l d m ≡ Ok (read_rgb l (cube_four w h s m))
   unfolding cubemap_answer
-  cubemap-read m z e = rw e (answer-given _ _ _ z ∙ ap Rgb (cubemap-colours l w h d m))
+  cubemap-read m z e = rw e (answer-given _ _ _ z ∙ ap Ok (cubemap-colours l w h d m))
 
-  trilinear-read : (levels : Lanes) → trilinear_refusal kind w h (length l) d levels ≡ 0 → s ≡ spots_at d → let m = two_levels levels (top w h) in trilinear_answer kind w h l d levels ≡ Rgb (lerp_colours (read_rgb l (cube_four w h s m.low)) (read_rgb l (cube_four w h s m.high)) m.part)
+  trilinear-read : (levels : Lanes) → trilinear_refusal kind w h (length l) d levels ≡ 0 → s ≡ spots_at d → let m = two_levels levels (top w h) in trilinear_answer kind w h l d levels ≡ Ok (lerp_colours (read_rgb l (cube_four w h s m.low)) (read_rgb l (cube_four w h s m.high)) m.part)
   unfolding trilinear_answer
-  trilinear-read levels z e = rw e (answer-given _ _ _ z ∙ ap Rgb (trilinear-colours l w h d levels))
+  trilinear-read levels z e = rw e (answer-given _ _ _ z ∙ ap Ok (trilinear-colours l w h d levels))
 
   -- the same from what a call works out in turn: the top level, the two levels, the places, the colours, and the blend
   pub trilinear-made : (levels : Lanes) → trilinear_refusal kind w h (length l) d levels ≡ 0 → s ≡ spots_at d → {n : ℕ} {m : TwoLevels} {at : Eight} {low high blend : Directions}
       → n ≡ top w h → m ≡ two_levels levels n → at ≡ record { low = cube_four w h s m.low; high = cube_four w h s m.high } → low ≡ read_rgb l at.low → high ≡ read_rgb l at.high → blend ≡ lerp_colours low high m.part
-      → Rgb blend ≡ trilinear_answer kind w h l d levels
+      → Ok blend ≡ trilinear_answer kind w h l d levels
   trilinear-made levels z e i j k p q r = rw (r, p, q, k, j, i) (sym (trilinear-read levels z e))

@@ -1,49 +1,45 @@
 // The bilinear lookup of four lanes, at a level of their picture.
 ghost use Rattle.std.specs.Prelude.{◌≡◌};
-ghost use Rattle.rules.specs.Refusals.{bilinear_rgb_refusal, bilinear_alpha_refusal};
-ghost use Rattle.rules.specs.Answers.{answer, bilinear_rgb_answer, bilinear_alpha_answer};
-ghost use Rattle.lookups.specs.declared.lookup.Lookup.TheVariants.{In, Refused};
-ghost use Rattle.lookups.specs.Reads.{wrapped_of};
+ghost use Rattle.rules.specs.Kinds.{code_of};
+ghost use Rattle.rules.specs.Refusals.{◌or_else◌, sampler_refusal, level_refusal, coordinates_refusal, faces_refusal};
+ghost use Rattle.rules.specs.Answers.{answer, refused, told, bilinear_rgb_answer, bilinear_alpha_answer};
+ghost use Rattle.places.specs.Samplers.{wrapping_of};
 
-use crate::lookup::{Lookup, in_level, lookup_number};
-use crate::refusals::{bilinear_alpha_refusal, bilinear_rgb_refusal};
+use choice::lanes::{all, each};
 use lane::bilinear::{squares, squares_alpha, squares_rgb};
-use rules::{Alpha, Colour, Lanes, Sampler, Wholes};
+use lane::level::level_at;
+use levels::layout::Layout;
+use levels::picture::Picture;
+use places::refusals::check_coordinates;
+use places::wrap::Wrapping;
+use rules::{Directions, Lanes, Refusal, Sampler, Wholes};
 
-// The level and the modes of sample_bilinear_rgb; or the refusal.
-fn bilinear_rgb_lookup(
-    kind: u32,
-    width: u32,
-    height: u32,
-    n: usize,
-    sampler: Sampler,
-    u: Lanes,
-    v: Lanes,
-    level: u32,
-    faces: Wholes,
-) -> Lookup
-    ensures { result ≡ answer (bilinear_rgb_refusal kind width height n sampler u v level faces) Refused (In (wrapped_of kind width height level sampler)) }
+// 8: one of four faces above 5 for a cubemap, or not 0 for another kind.
+#[tactic(auto, unfolding(rules::specs::Refusals::faces_refusal, rules::specs::Refusals::refusal_of, rules::specs::Lanes::in_lanes, rules::specs::Answers::answer))]
+fn check_faces(picture: Picture, faces: Wholes) -> Result<(), Refusal>
+    ensures { result ≡ told (faces_refusal (code_of picture.kind) faces) }
 {
-    let mut starts = [0u32; 13];
-    let refusal = bilinear_rgb_refusal(
-        kind,
-        width,
-        height,
-        n,
-        sampler,
-        u,
-        v,
-        level,
-        faces,
-        &mut starts,
-    );
-    if refusal != 0 {
-        return Lookup::Refused(refusal);
+    let n = picture.kind.faces();
+    if all(each(faces, |face| (face as usize) < n)) {
+        Ok(())
+    } else {
+        Err(Refusal::KindNotTaken)
     }
-    Lookup::In(in_level(&starts, kind, width, height, level, sampler))
 }
 
-// The colours of four lanes at a level, each on its own face, blended from the four texels around the coordinate.
+// What stands behind the 8 of a bilinear lookup, and the modes of its sampler: 4, 6, 5.
+#[tactic(auto, using(rules::proofs::Answering::answer_or, rules::proofs::Answering::answer_as), unfolding(rules::specs::Refusals::sampler_refusal))]
+fn check_blend(picture: Picture, sampler: Sampler, u: Lanes, v: Lanes, level: u32) -> Result<Wrapping, Refusal>
+    ensures { result ≡ answer (sampler_refusal sampler or_else level_refusal picture.width picture.height level or_else coordinates_refusal u v) refused (Ok (wrapping_of sampler)) }
+{
+    let by = Wrapping::try_from(sampler)?;
+    picture.check_level(level)?;
+    check_coordinates(u, v)?;
+    Ok(by)
+}
+
+// The colours of four lanes at a level, each on its own face, blended from the four texels around the coordinate: 1, 2, 3, 8, 4, 6, 5.
+#[tactic(auto, using(rules::proofs::Answering::answer_or, rules::proofs::Answering::answer_as), unfolding(rules::specs::Refusals::bilinear_rgb_refusal, rules::specs::Answers::bilinear_rgb_answer))]
 pub fn sample_bilinear_rgb(
     kind: u32,
     width: u32,
@@ -54,51 +50,18 @@ pub fn sample_bilinear_rgb(
     v: Lanes,
     level: u32,
     faces: Wholes,
-) -> Colour
+) -> Result<Directions, Refusal>
     ensures answer { result ≡ bilinear_rgb_answer kind width height texels.now sampler u v level faces }
 {
-    let found = bilinear_rgb_lookup(
-        kind,
-        width,
-        height,
-        texels.len(),
-        sampler,
-        u,
-        v,
-        level,
-        faces,
-    );
-    let Lookup::In(on) = found else {
-        return Colour::Refused(lookup_number(found));
-    };
-    let s = on.s;
-    let t = on.t;
-    let at = squares(on.plane, faces, s, t, u, v);
-    Colour::Rgb(squares_rgb(texels, at))
+    let layout = Layout::new(kind, width, height, texels.len())?;
+    check_faces(layout.picture, faces)?;
+    let by = check_blend(layout.picture, sampler, u, v, level)?;
+    let at = squares(level_at(&layout, level), faces, by, u, v);
+    Ok(squares_rgb(texels, at))
 }
 
-// The level and the modes of sample_bilinear_alpha; or the refusal.
-fn bilinear_alpha_lookup(
-    kind: u32,
-    width: u32,
-    height: u32,
-    n: usize,
-    sampler: Sampler,
-    u: Lanes,
-    v: Lanes,
-    level: u32,
-) -> Lookup
-    ensures { result ≡ answer (bilinear_alpha_refusal kind width height n sampler u v level) Refused (In (wrapped_of kind width height level sampler)) }
-{
-    let mut starts = [0u32; 13];
-    let refusal = bilinear_alpha_refusal(kind, width, height, n, sampler, u, v, level, &mut starts);
-    if refusal != 0 {
-        return Lookup::Refused(refusal);
-    }
-    Lookup::In(in_level(&starts, kind, width, height, level, sampler))
-}
-
-// The alphas of four lanes at a level, blended from the four texels around the coordinate.
+// The alphas of four lanes at a level, blended from the four texels around the coordinate: 1, 2, 3, 8, 4, 6, 5.
+#[tactic(auto, using(rules::proofs::Answering::answer_or, rules::proofs::Answering::answer_as), unfolding(rules::specs::Refusals::bilinear_alpha_refusal, rules::specs::Answers::bilinear_alpha_answer))]
 pub fn sample_bilinear_alpha(
     kind: u32,
     width: u32,
@@ -108,21 +71,18 @@ pub fn sample_bilinear_alpha(
     u: Lanes,
     v: Lanes,
     level: u32,
-) -> Alpha
+) -> Result<Lanes, Refusal>
     ensures answer { result ≡ bilinear_alpha_answer kind width height texels.now sampler u v level }
 {
-    let found = bilinear_alpha_lookup(kind, width, height, texels.len(), sampler, u, v, level);
-    let Lookup::In(on) = found else {
-        return Alpha::Refused(lookup_number(found));
-    };
+    let layout = Layout::new(kind, width, height, texels.len())?;
+    layout.picture.check_no_cubemap()?;
+    let by = check_blend(layout.picture, sampler, u, v, level)?;
     let first = Wholes {
         a: 0,
         b: 0,
         c: 0,
         d: 0,
     };
-    let s = on.s;
-    let t = on.t;
-    let at = squares(on.plane, first, s, t, u, v);
-    Alpha::Of(squares_alpha(texels, at))
+    let at = squares(level_at(&layout, level), first, by, u, v);
+    Ok(squares_alpha(texels, at))
 }

@@ -4,11 +4,8 @@
 mod bilinear;
 mod cubemap;
 mod facing;
-mod lookup;
 mod mip;
-mod modes;
 mod nearest;
-mod refusals;
 mod trilinear;
 
 pub use bilinear::{sample_bilinear_alpha, sample_bilinear_rgb};

@@ -3,10 +3,11 @@ ghost use Rattle.std.specs.Prelude.{◌≡◌, ◌≤◌};
 ghost use Rattle.rules.specs.Footprint.{mip_level_of};
 ghost use Rattle.rules.specs.Answers.{mip_level_answer};
 
-use crate::refusals::mip_level_refusal;
+use levels::refusals::check_sides;
 use levels::sizes::top_level;
 use places::level::mip_level;
-use rules::{Lanes, Level};
+use places::refusals::check_finite;
+use rules::{Lanes, Refusal};
 
 // The greatest level with 4 to its power at most the footprint, lowered to the top level.
 pub fn mip_level_of(width: u32, height: u32, steps: Lanes) -> u32
@@ -16,13 +17,12 @@ pub fn mip_level_of(width: u32, height: u32, steps: Lanes) -> u32
     mip_level(width, height, top_level(width, height), steps)
 }
 
-// The level of a picture that four steps ask for: the first two along the width, the last two along the height.
-pub fn compute_mip_level(width: u32, height: u32, steps: Lanes) -> Level
+// The level of a picture that four steps ask for, 2, 5: the first two along the width, the last two along the height.
+#[tactic(auto, using(rules::proofs::Answering::answer_or, rules::proofs::Answering::answer_as), unfolding(rules::specs::Refusals::mip_level_refusal, rules::specs::Answers::mip_level_answer))]
+pub fn compute_mip_level(width: u32, height: u32, steps: Lanes) -> Result<u32, Refusal>
     ensures { result ≡ mip_level_answer width height steps }
 {
-    let refusal = mip_level_refusal(width, height, steps);
-    if refusal != 0 {
-        return Level::Refused(refusal);
-    }
-    Level::At(mip_level_of(width, height, steps))
+    check_sides(width, height)?;
+    check_finite(steps)?;
+    Ok(mip_level_of(width, height, steps))
 }

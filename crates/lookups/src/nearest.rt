@@ -1,36 +1,20 @@
 // The nearest lookup of four lanes, at the level that their steps ask for.
 ghost use Rattle.std.specs.Prelude.{◌≡◌};
 ghost use Rattle.rules.specs.Refusals.{sample4_refusal};
-ghost use Rattle.rules.specs.Answers.{answer, sample4_rgb_answer, sample4_alpha_answer};
-ghost use Rattle.lookups.specs.declared.nearest.Places.TheVariants.{At, Refused};
-ghost use Rattle.lookups.specs.Reads.{sample4_four, places_number};
+ghost use Rattle.rules.specs.Answers.{answer, refused, sample4_rgb_answer, sample4_alpha_answer};
+ghost use Rattle.lookups.specs.Reads.{sample4_four};
 
-use crate::lookup::in_level;
 use crate::mip::mip_level_of;
-use crate::refusals::sample4_refusal;
+use lane::level::level_at;
 use lane::nearest::nearest_places;
 use lane::pixel::{opacity_four, rgb_four};
-use lane::reading::Four;
-use rules::{Alpha, Colour, Lanes, Sampler};
+use levels::layout::Layout;
+use places::refusals::{check_coordinates, check_finite};
+use places::wrap::Wrapping;
+use rules::{Directions, Four, Lanes, Refusal, Sampler};
 
-// Where four lanes read, at the level that the steps ask for; or the refusal.
-#[derive(Clone, Copy)]
-pub enum Places {
-    At(Four),
-    Refused(u32),
-}
-
-// The refusal number that a caller passes on, 0 where there is none.
-fn places_number(found: Places) -> u32
-    ensures { result ≡ places_number found }
-{
-    match found {
-        Places::At(_) => 0,
-        Places::Refused(n) => n,
-    }
-}
-
-// What both calls share: the refusals, then the places.
+// Where four lanes read, at the level that the steps ask for; which both calls share: 1, 2, 3, 8, 4, 5.
+#[tactic(auto, using(rules::proofs::Answering::answer_or, rules::proofs::Answering::answer_as), unfolding(rules::specs::Refusals::sample4_refusal))]
 fn sample4_places(
     kind: u32,
     width: u32,
@@ -40,22 +24,20 @@ fn sample4_places(
     u: Lanes,
     v: Lanes,
     steps: Lanes,
-) -> Places
-    ensures { result ≡ answer (sample4_refusal kind width height n sampler u v steps) Refused (At (sample4_four kind width height sampler u v steps)) }
+) -> Result<Four<usize>, Refusal>
+    ensures { result ≡ answer (sample4_refusal kind width height n sampler u v steps) refused (Ok (sample4_four kind width height sampler u v steps)) }
 {
-    let mut starts = [0u32; 13];
-    let refusal = sample4_refusal(kind, width, height, n, sampler, u, v, steps, &mut starts);
-    if refusal != 0 {
-        return Places::Refused(refusal);
-    }
+    let layout = Layout::new(kind, width, height, n)?;
+    layout.picture.check_no_cubemap()?;
+    let by = Wrapping::try_from(sampler)?;
+    check_coordinates(u, v)?;
+    check_finite(steps)?;
     let level = mip_level_of(width, height, steps);
-    let on = in_level(&starts, kind, width, height, level, sampler);
-    let s = on.s;
-    let t = on.t;
-    Places::At(nearest_places(on.plane, s, t, u, v))
+    Ok(nearest_places(level_at(&layout, level), by, u, v))
 }
 
 // The colours of four lanes, each that of the nearest texel, at the level that the steps ask for.
+#[tactic(auto, using(rules::proofs::Answering::answer_or, rules::proofs::Answering::answer_as), unfolding(rules::specs::Answers::sample4_rgb_answer))]
 pub fn sample4_rgb(
     kind: u32,
     width: u32,
@@ -65,17 +47,15 @@ pub fn sample4_rgb(
     u: Lanes,
     v: Lanes,
     steps: Lanes,
-) -> Colour
+) -> Result<Directions, Refusal>
     ensures answer { result ≡ sample4_rgb_answer kind width height texels.now sampler u v steps }
 {
-    let found = sample4_places(kind, width, height, texels.len(), sampler, u, v, steps);
-    let Places::At(at) = found else {
-        return Colour::Refused(places_number(found));
-    };
-    Colour::Rgb(rgb_four(texels, at))
+    let at = sample4_places(kind, width, height, texels.len(), sampler, u, v, steps)?;
+    Ok(rgb_four(texels, at))
 }
 
 // The alphas of four lanes, each that of the nearest texel, at the level that the steps ask for.
+#[tactic(auto, using(rules::proofs::Answering::answer_or, rules::proofs::Answering::answer_as), unfolding(rules::specs::Answers::sample4_alpha_answer))]
 pub fn sample4_alpha(
     kind: u32,
     width: u32,
@@ -85,12 +65,9 @@ pub fn sample4_alpha(
     u: Lanes,
     v: Lanes,
     steps: Lanes,
-) -> Alpha
+) -> Result<Lanes, Refusal>
     ensures answer { result ≡ sample4_alpha_answer kind width height texels.now sampler u v steps }
 {
-    let found = sample4_places(kind, width, height, texels.len(), sampler, u, v, steps);
-    let Places::At(at) = found else {
-        return Alpha::Refused(places_number(found));
-    };
-    Alpha::Of(opacity_four(texels, at))
+    let at = sample4_places(kind, width, height, texels.len(), sampler, u, v, steps)?;
+    Ok(opacity_four(texels, at))
 }

@@ -2,15 +2,16 @@
 ghost use Rattle.std.specs.Prelude.{◌≡◌};
 ghost use Rattle.rules.specs.Answers.{trilinear_answer};
 
-use crate::cubemap::cubemap_facing;
-use crate::facing::facing_number;
+use crate::facing::cubemap_uv_from_normal;
+use lane::cubemap::Cube;
 use lane::pixel::rgb_four;
 use lane::trilinear::{lerp_four, level_places, two_levels};
-use levels::sizes::top_level;
-use places::refusals::finite_refusal;
-use rules::{Colour, Directions, Facing, Lanes};
+use levels::layout::Layout;
+use places::refusals::check_finite;
+use rules::{Directions, Lanes, Refusal};
 
-// The colours of four lanes, each blended from the two levels around its fractional level.
+// The colours of four lanes, each blended from the two levels around its fractional level: 1, 2, 3, 8, 7, 5.
+#[tactic(auto, using(rules::proofs::Answering::answer_or, rules::proofs::Answering::answer_as), unfolding(rules::specs::Refusals::cubemap_refusal, rules::specs::Refusals::trilinear_refusal, rules::specs::Answers::trilinear_answer, rules::specs::Answers::facing_answer))]
 pub fn sample_cubemap_trilinear_rgb(
     kind: u32,
     width: u32,
@@ -18,21 +19,16 @@ pub fn sample_cubemap_trilinear_rgb(
     texels: &[u32],
     directions: Directions,
     levels: Lanes,
-) -> Colour
+) -> Result<Directions, Refusal>
     ensures answer { result ≡ trilinear_answer kind width height texels.now directions levels }
 {
-    let mut starts = [0u32; 13];
-    let found = cubemap_facing(kind, width, height, texels.len(), directions, &mut starts);
-    let Facing::On(spots) = found else {
-        return Colour::Refused(facing_number(found));
-    };
-    let numbers = finite_refusal(levels);
-    if numbers != 0 {
-        return Colour::Refused(numbers);
-    }
-    let m = two_levels(levels, top_level(width, height) as usize);
-    let at = level_places(&starts, width, height, spots, m);
+    let layout = Layout::new(kind, width, height, texels.len())?;
+    layout.picture.check_cubemap()?;
+    let spots = cubemap_uv_from_normal(directions)?;
+    check_finite(levels)?;
+    let m = two_levels(levels, layout.picture.top_level() as usize);
+    let at = level_places(Cube { layout: &layout }, spots, m);
     let low = rgb_four(texels, at.low);
     let high = rgb_four(texels, at.high);
-    Colour::Rgb(lerp_four(low, high, m.part))
+    Ok(lerp_four(low, high, m.part))
 }
