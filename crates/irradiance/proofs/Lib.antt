@@ -1,4 +1,3 @@
-pub mod Held
 pub mod Roots
 pub mod Spans
 pub mod Texels

@@ -1,7 +1,7 @@
 -- Turns, one after the other. Each adds its step to what the turns before it left; n turns from a column on, after those of the columns
 -- before it, are the turns of all these columns; and what each step keeps, all of them keep: one induction, over columns, rows and faces.
 -- So what every texel keeps, and unlit has, the sums have. Assumes nothing.
-use mathlib.Core.Path.{◌≡◌, refl, ap, ◌∙◌}
+use mathlib.Core.Path.{◌≡◌, refl, sym, ap, ◌∙◌}
 use mathlib.Core.List.{List}
 use Prim.Native.Nat.{ℕ, zero, suc, ◌+◌, ◌≤◌, ◌<◌}
 use native.Mathlib.Nat.{add-zero, add-suc}
@@ -42,8 +42,8 @@ module _ {A : Type 0} (step : ℕ → A → A) where
   turns-joined from (suc n) s = rw (add-suc from n) (ap (step (from + n)) (turns-joined from n s))
 
   -- a part more
-  pub turn-part : (from n : ℕ) (s r t : A) → t ≡ in_turn_from from n step r → r ≡ in_turn from step s → t ≡ in_turn (from + n) step s
-  turn-part from n s r t e h = e ∙ ap (in_turn_from from n step) h ∙ turns-joined from n s
+  pub turn-part : (from n all : ℕ) (s r t : A) → from + n ≡ all → t ≡ in_turn_from from n step r → r ≡ in_turn from step s → t ≡ in_turn all step s
+  turn-part from n all s r t a e h = rw (sym a) (e ∙ ap (in_turn_from from n step) h ∙ turns-joined from n s)
 
 pub turns-keep : {A : Type 0} (P : A → Type 0) (n : ℕ) (step : ℕ → A → A) (s : A) → ((i : ℕ) → i < n → (a : A) → P a → P (step i a)) → P s → P (in_turn n step s)
 unfolding in_turn

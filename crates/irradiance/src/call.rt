@@ -3,9 +3,9 @@ ghost use Rattle.std.specs.Prelude.{◌≡◌};
 ghost use Rattle.rules.specs.Irradiance.{times_both, folded_of};
 ghost use Rattle.rules.specs.Answers.{irradiance_answer};
 
+use crate::cubemap::Cubemap;
 use crate::refusals::irradiance_refusal;
-use crate::sums::sum_faces;
-use crate::tones::tones;
+use crate::tones::Tones;
 use rules::{Irradiance, Rgb, Sh4};
 
 const PI: f32 = 3.1415927;
@@ -42,6 +42,10 @@ pub fn irradiance_sh4(kind: u32, width: u32, height: u32, texels: &[u32]) -> Irr
     if refusal != 0 {
         return Irradiance::Refused(refusal);
     }
-    let held = tones();
-    Irradiance::Of(folded(sum_faces(texels, &held, width, height)))
+    let cubemap = Cubemap {
+        texels,
+        width,
+        height,
+    };
+    Irradiance::Of(folded(cubemap.sum_faces(&Tones::new())))
 }

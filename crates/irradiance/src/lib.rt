@@ -4,6 +4,7 @@
 #![tactic(auto)]
 
 pub mod call;
+pub mod cubemap;
 pub mod part;
 pub mod place;
 pub mod refusals;

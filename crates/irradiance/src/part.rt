@@ -1,37 +1,33 @@
 // Up to 64 texels of a row. The columns' places and the guesses at their roots are worked out first, each in a loop of its own, which
 // the compiler turns into vector code; the sums are added up one texel after the other.
-ghost use Rattle.std.specs.Prelude.{◌≡◌, ◌+◌, ◌≤◌, length};
+ghost use Rattle.std.specs.Prelude.{◌≡◌, ◌+◌, ◌≤◌, ◌<◌, length};
 ghost use Rattle.rules.specs.Floats.{Between, minus1, one32};
-ghost use Rattle.rules.specs.Curve.{curve};
 ghost use Rattle.rules.specs.Irradiance.{centre_of, gets, all_get, with_texel};
 ghost use Rattle.irradiance.specs.Holding.{Holds, OnFace};
-ghost use Rattle.irradiance.specs.Turns.{PartAt, in_turn_from};
+ghost use Rattle.irradiance.specs.Turns.{in_turn_from};
 
+use crate::cubemap::Cubemap;
 use crate::place::{centre, distance, place_basis, texel_omega};
 use crate::root::guess;
-use crate::tones::decoded;
+use crate::tones::Tones;
 use rules::{Basis, Rgb, Sh4};
 
-// The places of n columns, from the column `from` on.
-fn centres(width: u32, from: u32, n: usize, us: &mut [f32])
-    requires { (n ≤ length us.old) × (from + n ≤ width) × (width ≤ 4096) }
-    ensures { Holds n (λ i. centre_of width (from + i)) us.new }
+// The places of the columns from the column `from` on.
+fn centres(width: u32, from: u32, us: &mut [f32])
+    requires { (from + length us.old ≤ width) × (width ≤ 4096) }
+    ensures { Holds (λ i. centre_of width (from + i)) us.new }
 {
-    let mut i: usize = 0;
-    while i < n {
-        us[i] = centre(width, from + (i as u32));
-        i += 1;
+    for (i, u) in us.iter_mut().enumerate() {
+        *u = centre(width, from + (i as u32));
     }
 }
 
 // Guesses at the roots of their distances, in the row at v.
-fn guesses(v: f32, n: usize, us: &[f32], near: &mut [f64])
-    requires { (n ≤ length us.now) × (n ≤ length near.old) × Between minus1 v one32 × OnFace n us.now }
+fn guesses(v: f32, us: &[f32], near: &mut [f64])
+    requires { (length near.old ≤ length us.now) × Between minus1 v one32 × OnFace us.now }
 {
-    let mut i: usize = 0;
-    while i < n {
-        near[i] = guess(distance(us[i], v));
-        i += 1;
+    for (i, near) in near.iter_mut().enumerate() {
+        *near = guess(distance(us[i], v));
     }
 }
 
@@ -58,35 +54,34 @@ fn all_get(colour: Rgb, k: Basis, sums: Sh4) -> Sh4
     }
 }
 
-// The sums with n texels more: those of row y of a face, from the column `from` on.
-pub fn sum_part(
-    texels: &[u32],
-    tones: &[f32; 256],
-    width: u32,
-    height: u32,
-    face: u32,
-    y: u32,
-    from: u32,
-    n: usize,
-    sums: Sh4,
-) -> Sh4
-    requires { PartAt width height face y from n (length texels.now) × Holds 256 curve tones.now }
-    ensures { result ≡ in_turn_from from n (with_texel width height texels.now face y) sums }
-{
-    let omega = texel_omega(width, height);
-    let v = centre(height, y);
-    let mut us = [0.0f32; 64];
-    centres(width, from, n, &mut us);
-    let mut near = [0.0f64; 64];
-    guesses(v, n, &us, &mut near);
-    let row = ((face as usize) * (height as usize) + (y as usize)) * (width as usize);
-    let at = row + (from as usize);
-    let mut s = sums;
-    let mut i: usize = 0;
-    while i < n {
-        let k = place_basis(omega, face, us[i], v, near[i]);
-        s = all_get(decoded(tones, texels[at + i]), k, s);
-        i += 1;
+impl Cubemap<'_> {
+    // The sums with n texels more: those of row y of a face, from the column `from` on.
+    pub fn sum_part(
+        &self,
+        tones: &Tones,
+        face: u32,
+        y: u32,
+        from: u32,
+        n: usize,
+        mut sums: Sh4,
+    ) -> Sh4
+        requires { (face < 6) × (y < self.now.height) × (from + n ≤ self.now.width) × (n ≤ 64) }
+        ensures { result ≡ in_turn_from from n (with_texel self.now.width self.now.height self.now.texels.now face y) sums }
+    {
+        let omega = texel_omega(self.width, self.height);
+        let v = centre(self.height, y);
+        let mut us = [0.0f32; 64];
+        let us = &mut us[..n];
+        centres(self.width, from, us);
+        let mut near = [0.0f64; 64];
+        let near = &mut near[..n];
+        guesses(v, us, near);
+        let row = ((face as usize) * (self.height as usize) + (y as usize)) * (self.width as usize);
+        let start = row + (from as usize);
+        for i in 0..n {
+            let k = place_basis(omega, face, us[i], v, near[i]);
+            sums = all_get(tones.decoded(self.texels[start + i]), k, sums);
+        }
+        sums
     }
-    s
 }

@@ -8,9 +8,8 @@ use Rattle.irradiance.proofs.call.irradiance_sh4.Goals as goal
 pub returns-then-refusal-ne0 : goal.returns-then-refusal-ne0
 returns-then-refusal-ne0 c = light-stops _ _ _ _ _ c.irradiance_refusal-refusal.ensures c.if-refusal-ne0.true
 
-pub sum_faces-requires : goal.sum_faces-requires
-sum_faces-requires c =
-    (light-facts _ _ _ _ (passed c.irradiance_refusal-refusal.ensures c.if-refusal-ne0.false), c.tones-held.ensures)
+pub invariant_of-cubemap : goal.invariant_of-cubemap
+invariant_of-cubemap c = record { cubed = light-facts _ _ _ _ (passed c.irradiance_refusal-refusal.ensures c.if-refusal-ne0.false) }
 
 pub returns : goal.returns
 unfolding irradiance_of

@@ -1,6 +1,6 @@
--- `irradiance::tones::decoded` meets its contract: T of each byte.
+-- `irradiance::tones::Tones::decoded` meets its contract: T of each byte.
 use Rattle.rules.specs.Irradiance.{decoded_of}
-use Rattle.irradiance.proofs.tones.decoded.Goals as goal
+use Rattle.irradiance.proofs.tones.Tones.decoded.Goals as goal
 
 pub returns : goal.returns
 unfolding decoded_of
