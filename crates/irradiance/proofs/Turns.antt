@@ -13,16 +13,16 @@ use Rattle.irradiance.specs.Turns.{in_turn_from}
 
 module _ {A : Type 0} (step : ℕ → A → A) where
   -- no turn yet, one more, and all of them
-  pub turn-first : (s : A) → s ≡ in_turn 0 step s
+  pub turn_first : (s : A) → s ≡ in_turn 0 step s
   unfolding in_turn
-  turn-first s = refl
+  turn_first s = refl
 
-  pub turn-next : (n : ℕ) (s r t : A) → t ≡ step n r → r ≡ in_turn n step s → t ≡ in_turn (n + 1) step s
+  pub turn_next : (n : ℕ) (s r t : A) → t ≡ step n r → r ≡ in_turn n step s → t ≡ in_turn (n + 1) step s
   unfolding in_turn
-  turn-next n s r t e h = rw (add-one n) (e ∙ ap (step n) h)
+  turn_next n s r t e h = rw (add-one n) (e ∙ ap (step n) h)
 
-  pub turn-all : (m n : ℕ) (s r : A) → m ≤ n → n ≤ m → r ≡ in_turn m step s → r ≡ in_turn n step s
-  turn-all m n s r most least h = let e : m ≡ n = omega arith in rw e at h
+  pub turn_all : (m n : ℕ) (s r : A) → m ≤ n → n ≤ m → r ≡ in_turn m step s → r ≡ in_turn n step s
+  turn_all m n s r most least h = let e : m ≡ n = omega arith in rw e at h
 
   -- the same of turns from a column on
   pub from_first : (from : ℕ) (s : A) → s ≡ in_turn_from from 0 step s
@@ -42,8 +42,8 @@ module _ {A : Type 0} (step : ℕ → A → A) where
   turns-joined from (suc n) s = rw (add-suc from n) (ap (step (from + n)) (turns-joined from n s))
 
   -- a part more
-  pub turn-part : (from n all : ℕ) (s r t : A) → from + n ≡ all → t ≡ in_turn_from from n step r → r ≡ in_turn from step s → t ≡ in_turn all step s
-  turn-part from n all s r t a e h = rw (sym a) (e ∙ ap (in_turn_from from n step) h ∙ turns-joined from n s)
+  pub turn_part : (from n all : ℕ) (s r t : A) → from + n ≡ all → t ≡ in_turn_from from n step r → r ≡ in_turn from step s → t ≡ in_turn all step s
+  turn_part from n all s r t a e h = rw (sym a) (e ∙ ap (in_turn_from from n step) h ∙ turns-joined from n s)
 
 pub turns-keep : {A : Type 0} (P : A → Type 0) (n : ℕ) (step : ℕ → A → A) (s : A) → ((i : ℕ) → i < n → (a : A) → P a → P (step i a)) → P s → P (in_turn n step s)
 unfolding in_turn

@@ -11,6 +11,7 @@ use rules::{Irradiance, Rgb, Sh4};
 const PI: f32 = 3.1415927;
 
 // A colour times one number, and then times another.
+#[tactic(auto, unfolding(rules::specs::Irradiance::times_both))]
 fn times_both(a: f32, b: f32, c: Rgb) -> Rgb
     ensures { result ≡ times_both a b c }
 {
@@ -22,6 +23,7 @@ fn times_both(a: f32, b: f32, c: Rgb) -> Rgb
 }
 
 // The first times PI and the others times 2.0 * PI / 3.0, then all times the basis constants again.
+#[tactic(auto, unfolding(rules::specs::Irradiance::folded_of))]
 fn folded(s: Sh4) -> Sh4
     ensures { result ≡ folded_of s }
 {

@@ -32,6 +32,7 @@ fn guesses(v: f32, us: &[f32], near: &mut [f64])
 }
 
 // A sum of three colours gets colour * (basis * weight).
+#[tactic(auto, unfolding(rules::specs::Irradiance::gets))]
 fn get(sum: Rgb, colour: Rgb, k: f32) -> Rgb
     ensures { result ≡ gets sum colour k }
 {
@@ -43,6 +44,7 @@ fn get(sum: Rgb, colour: Rgb, k: f32) -> Rgb
 }
 
 // All four sums with one texel more.
+#[tactic(auto, unfolding(rules::specs::Irradiance::all_get))]
 fn all_get(colour: Rgb, k: Basis, sums: Sh4) -> Sh4
     ensures { result ≡ all_get colour k sums }
 {

@@ -7,6 +7,7 @@ use crate::root::settled;
 use rules::{Basis, Vector};
 
 // texel_omega: (2.0 / width) * (2.0 / height).
+#[tactic(auto, unfolding(rules::specs::Irradiance::omega_of))]
 pub fn texel_omega(width: u32, height: u32) -> f32
     requires { (width ≤ 4096) × (height ≤ 4096) }
     ensures { result ≡ omega_of width height }
@@ -15,6 +16,7 @@ pub fn texel_omega(width: u32, height: u32) -> f32
 }
 
 // ((x + 0.5) / side) * 2.0 - 1.0.
+#[tactic(auto, unfolding(rules::specs::Irradiance::centre_of))]
 pub fn centre(side: u32, x: u32) -> f32
     requires { (x < side) × (side ≤ 4096) }
     ensures { result ≡ centre_of side x }
@@ -23,6 +25,7 @@ pub fn centre(side: u32, x: u32) -> f32
 }
 
 // 1 + u*u + v*v, left to right.
+#[tactic(auto, unfolding(rules::specs::Irradiance::distance_of))]
 pub fn distance(u: f32, v: f32) -> f32
     ensures { result ≡ distance_of u v }
 {
@@ -30,6 +33,7 @@ pub fn distance(u: f32, v: f32) -> f32
 }
 
 // The direction of a place, before it is divided.
+#[tactic(auto, unfolding(rules::specs::Irradiance::towards))]
 fn towards(face: u32, u: f32, v: f32) -> Vector
     ensures { result ≡ towards face u v }
 {

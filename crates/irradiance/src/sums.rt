@@ -8,6 +8,7 @@ use rules::{Rgb, Sh4};
 
 impl Cubemap<'_> {
     // The sums with row y of a face.
+    #[tactic(auto, using(crate::proofs::Turns::turn_first, crate::proofs::Turns::turn_part, crate::proofs::Turns::turn_all))]
     fn sum_row(&self, tones: &Tones, face: u32, y: u32, mut sums: Sh4) -> Sh4
         requires { (face < 6) × (y < self.now.height) }
         ensures { result ≡ in_turn self.now.width (with_texel self.now.width self.now.height self.now.texels.now face y) sums }
@@ -20,6 +21,7 @@ impl Cubemap<'_> {
     }
 
     // The sums with a face, row after row.
+    #[tactic(auto, using(crate::proofs::Turns::turn_first))]
     fn sum_face(&self, tones: &Tones, face: u32, mut sums: Sh4) -> Sh4
         requires { face < 6 }
         ensures { result ≡ in_turn self.now.height (λ y. in_turn self.now.width (with_texel self.now.width self.now.height self.now.texels.now face y)) sums }
@@ -31,6 +33,7 @@ impl Cubemap<'_> {
     }
 
     // The sums of all faces, each from +0.
+    #[tactic(auto, using(crate::proofs::Turns::turn_first, crate::proofs::Turns::turn_next), unfolding(rules::specs::Irradiance::sums_of))]
     pub fn sum_faces(&self, tones: &Tones) -> Sh4
         ensures { result ≡ sums_of self.now.width self.now.height self.now.texels.now }
     {

@@ -30,6 +30,7 @@ impl Tones {
     }
 
     // A texel's red, green and blue, each decoded through T.
+    #[tactic(auto, unfolding(rules::specs::Irradiance::decoded_of))]
     pub fn decoded(&self, texel: u32) -> Rgb
         ensures { result ≡ decoded_of texel }
     {

@@ -1,12 +1,10 @@
 -- `irradiance::root::settled` meets its contract: digits that pass the test are those of the root.
-use mathlib.Core.Path.{◌≡◌, sym, subst}
-use mathlib.Core.Bool.{true, not, false≢true}
+use mathlib.Core.Path.{sym, subst}
 use native.Mathlib.Omega.{arith}
 use lib.Dec.{T}
-use lib.Ieee.{Float, nan, inf, fin, binary32, fits, to_bits, le, is_nan}
-use lib.Ieee.Positive.{positive-finite}
-use Rattle.texel.proofs.Patterns.{no_nan, below_no_nan}
-use Rattle.irradiance.proofs.Roots.{Pattern, pattern-in, above_zero, from_zero, number_in, root-settled}
+use lib.Ieee.{binary32, fits, to_bits}
+use Rattle.texel.proofs.Patterns.{below_no_nan}
+use Rattle.irradiance.proofs.Roots.{Pattern, pattern-in, from_zero, number_in, root-settled}
 use Rattle.irradiance.proofs.root.settled.Goals as goal
 use Rattle.irradiance.proofs.root.settled.Goals.{Start}
 
@@ -15,21 +13,6 @@ held c = subst T (sym c.well_formed.0.1) tt
 
 pattern : (c : goal.Start) → Pattern (to_bits binary32 c.args.d)
 pattern c = pattern-in c.args.d (held c) c.requires
-
--- what passes a test of order is no NaN
-at_least : (x y : Float) → le x y ≡ true → T (not (is_nan y))
-unfolding le is_nan
-at_least nan nan e = absurd (false≢true e)
-at_least (inf s) nan e = absurd (false≢true e)
-at_least (fin s m d) nan e = absurd (false≢true e)
-at_least x (inf s) e = tt
-at_least x (fin s m e) h = tt
-
-pub float_to_bits-digits : goal.float_to_bits-digits
-float_to_bits-digits c = at_least _ c.args.guess c.if-guess.true
-
-pub float_to_bits-b : goal.float_to_bits-b
-float_to_bits-b c = let d = c.args.d in no_nan d (positive-finite d (above_zero d c.requires))
 
 pub overflow_cast-b : goal.overflow_cast-b
 overflow_cast-b c = let p = pattern (goal.at.overflow_cast-b c).Start in omega arith
