@@ -33,9 +33,6 @@ module _ {A : Type 0} (step : ℕ → A → A) where
   unfolding in_turn_from
   from_next from n s r t e h = rw (add-one n) (e ∙ ap (step (from + n)) h)
 
-  pub from_all : (from m n : ℕ) (s r : A) → m ≤ n → n ≤ m → r ≡ in_turn_from from m step s → r ≡ in_turn_from from n step s
-  from_all from m n s r most least h = let e : m ≡ n = omega arith in rw e at h
-
   turns-joined : (from n : ℕ) (s : A) → in_turn_from from n step (in_turn from step s) ≡ in_turn (from + n) step s
   unfolding in_turn in_turn_from
   turns-joined from zero s = rw (add-zero from)

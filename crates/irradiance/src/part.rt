@@ -58,6 +58,7 @@ fn all_get(colour: Rgb, k: Basis, sums: Sh4) -> Sh4
 
 impl Cubemap<'_> {
     // The sums with n texels more: those of row y of a face, from the column `from` on.
+    #[tactic(auto, using(crate::proofs::Turns::from_first))]
     pub fn sum_part(
         &self,
         tones: &Tones,

@@ -7,7 +7,7 @@ use Rattle.std.proofs.lemmas.List.{length-take-le}
 use Rattle.rules.specs.Floats.{Between, minus1, one32}
 use Rattle.irradiance.specs.Holding.{OnFace}
 use Rattle.irradiance.proofs.Spans.{centre-in}
-use Rattle.irradiance.proofs.Turns.{from_first, from_next}
+use Rattle.irradiance.proofs.Turns.{from_next}
 use Rattle.irradiance.proofs.Texels.{on-face, turn}
 use Rattle.irradiance.proofs.cubemap.Cubemap.sum_part.Goals as goal
 use Rattle.irradiance.proofs.cubemap.Cubemap.sum_part.Goals.{After-centres, Start}
@@ -30,9 +30,6 @@ guesses-requires c =
     let made = (goal.at.guesses-requires c).After-centres in
     let few = c.requires.3 in
     (rw (long made, length-take-le c.args.n (replicate 64 (of_bits binary64 0)) few) (omega arith), row_in made, columns made)
-
-pub loop-i-init : goal.loop-i-init
-loop-i-init c = from_first _ _ _
 
 pub place_basis-k-requires : goal.place_basis-k-requires
 place_basis-k-requires c =
