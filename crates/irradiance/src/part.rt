@@ -2,9 +2,9 @@
 // the compiler turns into vector code; the sums are added up one texel after the other.
 ghost use Rattle.std.specs.Prelude.{◌≡◌, ◌+◌, ◌≤◌, ◌<◌, length};
 ghost use Rattle.rules.specs.Floats.{Between, minus1, one32};
-ghost use Rattle.rules.specs.Irradiance.{centre_of, gets, all_get, with_texel};
+ghost use Rattle.rules.specs.Irradiance.{centre_of, gets, all_get};
 ghost use Rattle.irradiance.specs.Holding.{Holds, OnFace};
-ghost use Rattle.irradiance.specs.Turns.{in_turn_from};
+ghost use Rattle.irradiance.specs.Turns.{in_turn_from, with_column};
 
 use crate::cubemap::Cubemap;
 use crate::place::{centre, distance, place_basis, texel_omega};
@@ -69,7 +69,7 @@ impl Cubemap<'_> {
         mut sums: Sh4,
     ) -> Sh4
         requires { (face < 6) × (y < self.now.height) × (from + n ≤ self.now.width) × (n ≤ 64) }
-        ensures { result ≡ in_turn_from from n (with_texel self.now.width self.now.height self.now.texels.now face y) sums }
+        ensures { result ≡ in_turn_from from n (with_column self.now face y) sums }
     {
         let omega = texel_omega(self.width, self.height);
         let v = centre(self.height, y);

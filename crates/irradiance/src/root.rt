@@ -19,7 +19,6 @@ pub fn guess(d: f32) -> f64
 }
 
 // Whether r is the whole number nearest to the root of n: the root lies within a half of it, and never half-way.
-#[tactic(auto, using(crate::proofs::Roots::rounded))]
 fn is_nearest(r: u64, n: u64) -> bool
     requires { (8388608 ≤ r) × (r < 16777216) }
     ensures { result ≡ true → Rounded n r }

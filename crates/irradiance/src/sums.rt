@@ -1,6 +1,7 @@
 // The sums over a row, a face, and the six faces.
 ghost use Rattle.std.specs.Prelude.{◌≡◌, ◌<◌};
-ghost use Rattle.rules.specs.Irradiance.{in_turn, with_texel, sums_of};
+ghost use Rattle.rules.specs.Irradiance.{in_turn, sums_of};
+ghost use Rattle.irradiance.specs.Turns.{with_row};
 
 use crate::cubemap::Cubemap;
 use crate::tones::Tones;
@@ -11,7 +12,7 @@ impl Cubemap<'_> {
     #[tactic(auto, using(crate::proofs::Turns::turn_first, crate::proofs::Turns::turn_part, crate::proofs::Turns::turn_all))]
     fn sum_row(&self, tones: &Tones, face: u32, y: u32, mut sums: Sh4) -> Sh4
         requires { (face < 6) × (y < self.now.height) }
-        ensures { result ≡ in_turn self.now.width (with_texel self.now.width self.now.height self.now.texels.now face y) sums }
+        ensures { result ≡ with_row self.now face y sums }
     {
         for x in (0..self.width).step_by(64) {
             let n = (self.width - x).min(64);
@@ -24,7 +25,7 @@ impl Cubemap<'_> {
     #[tactic(auto, using(crate::proofs::Turns::turn_first))]
     fn sum_face(&self, tones: &Tones, face: u32, mut sums: Sh4) -> Sh4
         requires { face < 6 }
-        ensures { result ≡ in_turn self.now.height (λ y. in_turn self.now.width (with_texel self.now.width self.now.height self.now.texels.now face y)) sums }
+        ensures { result ≡ in_turn self.now.height (with_row self.now face) sums }
     {
         for y in 0..self.height {
             sums = self.sum_row(tones, face, y, sums);

@@ -1,9 +1,7 @@
 -- `irradiance::cubemap::Cubemap::sum_part` meets its contract. The invariant: i texels are added.
 use mathlib.Core.Path.{◌≡◌}
-use Rattle.rules.specs.Irradiance.{with_texel}
-use Rattle.irradiance.specs.Turns.{in_turn_from}
+use Rattle.irradiance.specs.Turns.{in_turn_from, with_column}
 use Rattle.irradiance.proofs.cubemap.Cubemap.sum_part.Given as goal
 
 abbrev pub invariant-loop-i : goal.invariant-loop-i
-invariant-loop-i l =
-    l.sums ≡ in_turn_from l.from l.i (with_texel l.self.width l.self.height l.self.texels.now l.face l.y) l.initial.sums
+invariant-loop-i l = l.sums ≡ in_turn_from l.from l.i (with_column l.self l.face l.y) l.initial.sums
