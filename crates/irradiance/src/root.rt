@@ -24,11 +24,7 @@ fn is_nearest(r: u64, n: u64) -> bool
     ensures { result ≡ true → Rounded n r }
 {
     let square = r * r;
-    if square - r < n {
-        n <= square + r
-    } else {
-        false
-    }
+    square - r < n && n <= square + r
 }
 
 // The root of d, correctly rounded. Where the guess is not the one, the lower crate's root is asked.
