@@ -1,5 +1,7 @@
 -- A black cubemap gives exactly twelve +0, at every size and with any alpha. The value of byte 0 is +0, +0 times a finite number is a zero of
 -- either sign, and +0 and such a zero add up to +0: so every texel keeps the sums as they start, and +0 times the constants is +0. Assumes nothing.
+use Rattle.std.specs.Prelude.{Ok}
+use Rattle.rules.specs.Answers.{refused}
 use mathlib.Core.Path.{◌≡◌, refl, ap, ◌∙◌}
 use mathlib.Core.Bool.{Bool, true, false}
 use mathlib.Core.List.{List}
@@ -12,7 +14,6 @@ use lib.Ieee.{Float, binary32, unlike, round, sum, add, mul, div, of_bits}
 use lib.Ieee.Scale.{finite, round_same}
 use lib.Ieee.Positive.{num, den, den_pos}
 use Rattle.rules.specs.declared.Basis.{Basis}
-use Rattle.rules.specs.declared.Irradiance.TheVariants.{Of, Refused}
 use Rattle.rules.specs.Floats.{zero32, two32}
 use Rattle.rules.specs.Kinds.{red_of, green_of, blue_of}
 use Rattle.rules.specs.Levels.{texel}
@@ -59,7 +60,7 @@ black-gets : (k : Float) → T (finite k) → gets black black k ≡ black
 unfolding gets
 black-gets k p = rw (nought-get k p)
 
-unlit-gets : (k : Basis) → OnBasis (λ x. T (finite x)) k → all_get black k unlit ≡ unlit
+unlit-gets : (k : Basis Float) → OnBasis (λ x. T (finite x)) k → all_get black k unlit ≡ unlit
 unfolding all_get
 unlit-gets k p = rw (black-gets k.constant p.constant, black-gets k.y p.y, black-gets k.z p.z, black-gets k.x p.x)
 
@@ -89,6 +90,6 @@ pub black-coefficients : (w h : ℕ) (l : List ℕ) → Sides w h → AllBlack w
 unfolding irradiance_of
 black-coefficients w h l s k = ap folded_of (black-sums w h l s k) ∙ folded-unlit
 
-pub black-answer : (kind w h : ℕ) (l : List ℕ) → irradiance_refusal kind w h (length l) ≡ 0 → AllBlack w h l → irradiance_answer kind w h l ≡ Of unlit
+pub black-answer : (kind w h : ℕ) (l : List ℕ) → irradiance_refusal kind w h (length l) ≡ 0 → AllBlack w h l → irradiance_answer kind w h l ≡ Ok unlit
 unfolding irradiance_answer
-black-answer kind w h l e k = answer-given (irradiance_refusal kind w h (length l)) Refused (Of (irradiance_of w h l)) e ∙ ap Of (black-coefficients w h l (light-facts kind w h (length l) e).sides k)
+black-answer kind w h l e k = answer-given (irradiance_refusal kind w h (length l)) refused (Ok (irradiance_of w h l)) e ∙ ap Ok (black-coefficients w h l (light-facts kind w h (length l) e).sides k)

@@ -3,14 +3,14 @@ use lib.Ieee.{Float}
 use Rattle.rules.specs.declared.Vector.{Vector}
 use Rattle.rules.specs.declared.Basis.{Basis}
 use Rattle.rules.specs.declared.Rgb.{Rgb}
-use Rattle.rules.specs.declared.Sh4.{Sh4}
+use Rattle.rules.specs.Irradiance.{Sh4}
 
-pub record Along (P : Float → Type 0) (n : Vector) : Type 0 where
+pub record Along (P : Float → Type 0) (n : Vector Float) : Type 0 where
   pub x : P n.x
   pub y : P n.y
   pub z : P n.z
 
-pub record OnBasis (P : Float → Type 0) (k : Basis) : Type 0 where
+pub record OnBasis (P : Float → Type 0) (k : Basis Float) : Type 0 where
   pub constant : P k.constant
   pub y : P k.y
   pub z : P k.z
@@ -29,7 +29,7 @@ pub record AllOf (P : Float → Type 0) (s : Sh4) : Type 0 where
 
 -- what follows from it, of each
 module _ {P Q : Float → Type 0} (f : (x : Float) → P x → Q x) where
-  pub basis-map : {k : Basis} → OnBasis P k → OnBasis Q k
+  pub basis-map : {k : Basis Float} → OnBasis P k → OnBasis Q k
   basis-map {k} p = record { constant = f k.constant p.constant; y = f k.y p.y; z = f k.z p.z; x = f k.x p.x }
 
   pub each_map : {c : Rgb} → EachOf P c → EachOf Q c

@@ -1,5 +1,7 @@
 -- No coefficient is a nan or an infinity, for every picture that the call takes. A term is at most 2 in magnitude, and 2 ^ 26 + 2 rounds to
 -- 2 ^ 26: so the sums stay within 2 ^ 26 however many terms they get, and times the constants within 2 ^ 27. Assumes nothing.
+use Rattle.std.specs.Prelude.{Ok}
+use Rattle.rules.specs.Answers.{refused}
 use mathlib.Core.List.{List}
 use mathlib.Core.Logic.{⊎_elim}
 use Prim.Native.Nat.{ℕ, ◌+◌, ◌*◌, ◌<◌}
@@ -10,9 +12,7 @@ use lib.Ieee.Scale.{finite}
 use lib.Ieee.Positive.{positive}
 use Rattle.rules.specs.declared.Rgb.{Rgb}
 use Rattle.rules.specs.declared.Basis.{Basis}
-use Rattle.rules.specs.declared.Sh4.{Sh4}
-use Rattle.rules.specs.declared.Irradiance.{Irradiance}
-use Rattle.rules.specs.declared.Irradiance.TheVariants.{Of, Refused}
+use Rattle.rules.specs.Irradiance.{Sh4}
 use Rattle.rules.specs.Floats.{zero32, one32, two32}
 use Rattle.rules.specs.Levels.{texel}
 use Rattle.rules.specs.Irradiance.{pi32, basis0, basis1, two_thirds, gets, all_get, with_texel, black, unlit, sums_of, times_both, folded_of, irradiance_of}
@@ -49,7 +49,7 @@ gets-within {s} {c} {k} p q b = record { r = part s.r c.r p.r q.r; g = part s.g 
     part : (s c : Float) → Within high26 s → Within one32 c → Within high26 (add binary32 s (mul binary32 c k))
     part s c p q = more_within s (mul binary32 c k) p (term-within c k q b)
 
-all-get-within : {c : Rgb} {k : Basis} {s : Sh4} → EachOf (Within one32) c → OnBasis (Within two32) k → AllOf (Within high26) s → AllOf (Within high26) (all_get c k s)
+all-get-within : {c : Rgb} {k : Basis Float} {s : Sh4} → EachOf (Within one32) c → OnBasis (Within two32) k → AllOf (Within high26) s → AllOf (Within high26) (all_get c k s)
 unfolding all_get
 all-get-within q b p = record {
   constant = gets-within p.constant q b.constant;
@@ -110,14 +110,14 @@ coefficients-finite w h l s k =
 
 -- ---- and what the call answers, for every input
 abbrev pub FiniteAnswer : Irradiance → Type 0
-FiniteAnswer (Of s) = AllOf (λ x. T (finite x)) s
-FiniteAnswer (Refused n) = Unit
+FiniteAnswer (Ok s) = AllOf (λ x. T (finite x)) s
+FiniteAnswer (refused n) = Unit
 
 pub answer-finite : (kind w h : ℕ) (l : List ℕ) → Words l → FiniteAnswer (irradiance_answer kind w h l)
 unfolding irradiance_answer
 answer-finite kind w h l k =
     let n = irradiance_refusal kind w h (length l) in
     ⊎_elim
-    (λ e. rw (answer-given n Refused (Of (irradiance_of w h l)) e) (coefficients-finite w h l (light-facts kind w h (length l) e).sides k))
-    (λ e. rw (answer-refused n Refused (Of (irradiance_of w h l)) e) tt)
+    (λ e. rw (answer-given n refused (Ok (irradiance_of w h l)) e) (coefficients-finite w h l (light-facts kind w h (length l) e).sides k))
+    (λ e. rw (answer-refused n refused (Ok (irradiance_of w h l)) e) tt)
     (none_or_some n)

@@ -67,7 +67,7 @@ towards-within f u v p q =
     (either P (eqb f 3) _ _ (record { x = p; y = o'; z = q' })
     (either P (eqb f 4) _ _ (record { x = p; y = q'; z = o }) (record { x = p'; y = q'; z = o' })))))
 
-pub divided-within : (r : Float) (n : Vector) → Between one32 r two32 → Along (Within one32) n → Along (Within one32) (divided_by r n)
+pub divided-within : (r : Float) (n : Vector Float) → Between one32 r two32 → Along (Within one32) n → Along (Within one32) (divided_by r n)
 unfolding divided_by
 divided-within r n b k = record { x = part n.x k.x; y = part n.y k.y; z = part n.z k.z }
   where
@@ -75,7 +75,7 @@ divided-within r n b k = record { x = part n.x k.x; y = part n.y k.y; z = part n
     part x h = unfold of_bits fits in within-div binary32 one32 x r two32 tt tt tt b h
 
 -- ---- the basis times the weight
-pub basis-within : (n : Vector) (weight : Float) → Along (Within one32) n → Within four32 weight → OnBasis (Within two32) (basis_of n weight)
+pub basis-within : (n : Vector Float) (weight : Float) → Along (Within one32) n → Within four32 weight → OnBasis (Within two32) (basis_of n weight)
 unfolding basis_of
 basis-within n weight k b = record { constant = first; y = part n.y k.y; z = part n.z k.z; x = part n.x k.x }
   where

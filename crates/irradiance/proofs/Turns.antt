@@ -7,7 +7,7 @@ use Prim.Native.Nat.{ℕ, zero, suc, ◌+◌, ◌≤◌, ◌<◌}
 use native.Mathlib.Nat.{add-zero, add-suc}
 use native.Mathlib.Omega.{arith}
 use native.Mathlib.Numerals.{add-one}
-use Rattle.rules.specs.declared.Sh4.{Sh4}
+use Rattle.rules.specs.Irradiance.{Sh4}
 use Rattle.rules.specs.Irradiance.{in_turn, with_texel, unlit, sums_of}
 use Rattle.irradiance.specs.Turns.{in_turn_from}
 

@@ -1,6 +1,6 @@
 -- The turns that sum a cubemap, row by row and part by part. Definitions only.
 use Rattle.std.specs.Prelude.{ℕ, zero, suc, ◌+◌}
-use Rattle.rules.specs.declared.Sh4.{Sh4}
+use Rattle.rules.specs.Irradiance.{Sh4}
 use Rattle.rules.specs.Irradiance.{in_turn, with_texel}
 use Rattle.irradiance.specs.declared.cubemap.Cubemap.{Cubemap}
 

@@ -4,9 +4,9 @@ ghost use Rattle.rules.specs.Irradiance.{times_both, folded_of};
 ghost use Rattle.rules.specs.Answers.{irradiance_answer};
 
 use crate::cubemap::Cubemap;
-use crate::refusals::irradiance_refusal;
+use crate::refusals::check_irradiance;
 use crate::tones::Tones;
-use rules::{Irradiance, Rgb, Sh4};
+use rules::{Basis, Refusal, Rgb, Sh4};
 
 const PI: f32 = 3.1415927;
 
@@ -28,7 +28,7 @@ fn folded(s: Sh4) -> Sh4
     ensures { result ≡ folded_of s }
 {
     let others = 2.0 * PI / 3.0;
-    Sh4 {
+    Basis {
         constant: times_both(PI, 0.282095, s.constant),
         y: times_both(others, 0.488603, s.y),
         z: times_both(others, 0.488603, s.z),
@@ -37,17 +37,15 @@ fn folded(s: Sh4) -> Sh4
 }
 
 // The four irradiance coefficients of each colour of a cubemap's level 0.
-pub fn irradiance_sh4(kind: u32, width: u32, height: u32, texels: &[u32]) -> Irradiance
+#[tactic(auto, using(rules::proofs::Answering::answer_as), unfolding(rules::specs::Answers::irradiance_answer, rules::specs::Irradiance::irradiance_of))]
+pub fn irradiance_sh4(kind: u32, width: u32, height: u32, texels: &[u32]) -> Result<Sh4, Refusal>
     ensures { result ≡ irradiance_answer kind width height texels.now }
 {
-    let refusal = irradiance_refusal(kind, width, height, texels.len());
-    if refusal != 0 {
-        return Irradiance::Refused(refusal);
-    }
+    check_irradiance(kind, width, height, texels.len())?;
     let cubemap = Cubemap {
         texels,
         width,
         height,
     };
-    Irradiance::Of(folded(cubemap.sum_faces(&Tones::new())))
+    Ok(folded(cubemap.sum_faces(&Tones::new())))
 }

@@ -45,10 +45,10 @@ fn get(sum: Rgb, colour: Rgb, k: f32) -> Rgb
 
 // All four sums with one texel more.
 #[tactic(auto, unfolding(rules::specs::Irradiance::all_get))]
-fn all_get(colour: Rgb, k: Basis, sums: Sh4) -> Sh4
+fn all_get(colour: Rgb, k: Basis<f32>, sums: Sh4) -> Sh4
     ensures { result ≡ all_get colour k sums }
 {
-    Sh4 {
+    Basis {
         constant: get(sums.constant, colour, k.constant),
         y: get(sums.y, colour, k.y),
         z: get(sums.z, colour, k.z),

@@ -34,7 +34,7 @@ pub fn distance(u: f32, v: f32) -> f32
 
 // The direction of a place, before it is divided.
 #[tactic(auto, unfolding(rules::specs::Irradiance::towards))]
-fn towards(face: u32, u: f32, v: f32) -> Vector
+fn towards(face: u32, u: f32, v: f32) -> Vector<f32>
     ensures { result ≡ towards face u v }
 {
     match face {
@@ -68,7 +68,7 @@ fn towards(face: u32, u: f32, v: f32) -> Vector
 }
 
 // The basis at a place of a face, times the weight; `guess` is one at the root.
-pub fn place_basis(omega: f32, face: u32, u: f32, v: f32, guess: f64) -> Basis
+pub fn place_basis(omega: f32, face: u32, u: f32, v: f32, guess: f64) -> Basis<f32>
     requires { Between minus1 u one32 × Between minus1 v one32 }
     ensures { result ≡ place_basis omega face u v }
 {

@@ -1,21 +1,42 @@
-// The refusal numbers of the call: each is given exactly when its test fails, and 0 is no refusal.
-ghost use Rattle.std.specs.Prelude.{◌≡◌};
-ghost use Rattle.rules.specs.Refusals.{irradiance_refusal};
+// What the call refuses, test by test.
+ghost use Rattle.std.specs.Prelude.{◌≡◌, IfOk};
+ghost use Rattle.rules.specs.Kinds.{code_of};
+ghost use Rattle.rules.specs.Refusals.{only_cubemap_refusal, picture_refusal, irradiance_refusal};
+ghost use Rattle.rules.specs.Answers.{done, told};
 
-use rules::Sizes;
+use rules::{Kind, Refusal};
 use texture::level_sizes;
 
-// 1, 2, 3 (level 0: six faces for a cubemap, one for the others), 8: every picture that is taken has a level 0.
-pub fn irradiance_refusal(kind: u32, width: u32, height: u32, texels: usize) -> u32
-    ensures { result ≡ irradiance_refusal kind width height texels }
+// The kind of a picture that is taken: 1, 2. Every picture that is taken has a level 0.
+#[tactic(auto, using(rules::proofs::RefusingRanges::level0_told))]
+fn kind_of(kind: u32, width: u32, height: u32) -> Result<Kind, Refusal>
+    ensures told { done result ≡ told (picture_refusal kind width height) }
+    ensures is { IfOk result (λ k. code_of k ≡ kind) }
 {
-    let sizes = level_sizes(kind, width, height, 0);
-    if let Sizes::Refused(n) = sizes {
-        return n;
-    }
-    let face = (height as usize) * (width as usize);
+    level_sizes(kind, width, height, 0)?;
+    Kind::try_from(kind)
+}
+
+// 8: another kind than a cubemap.
+#[tactic(auto, unfolding(rules::specs::Refusals::only_cubemap_refusal, rules::specs::Refusals::refusal_of, rules::specs::Answers::answer))]
+fn check_cubemap(kind: Kind) -> Result<(), Refusal>
+    ensures { result ≡ told (only_cubemap_refusal (code_of kind)) }
+{
     match kind {
-        3 => if texels < 6 * face { 3 } else { 0 },
-        _ => if texels < face { 3 } else { 8 },
+        Kind::Cubemap => Ok(()),
+        _ => Err(Refusal::KindNotTaken),
     }
+}
+
+// 1, 2, 3 (level 0: six faces for a cubemap, one for the others), 8.
+#[tactic(auto, using(rules::proofs::Answering::answer_or), unfolding(rules::specs::Refusals::irradiance_refusal, rules::specs::Refusals::refusal_of, rules::specs::Answers::answer))]
+pub fn check_irradiance(kind: u32, width: u32, height: u32, texels: usize) -> Result<(), Refusal>
+    ensures { result ≡ told (irradiance_refusal kind width height texels) }
+{
+    let kind = kind_of(kind, width, height)?;
+    let level0 = kind.faces() * (height as usize) * (width as usize);
+    if texels < level0 {
+        return Err(Refusal::ShortBuffer);
+    }
+    check_cubemap(kind)
 }
