@@ -1,5 +1,6 @@
 -- No coefficient is a nan or an infinity, for every picture that the call takes. A term is at most 2 in magnitude, and 2 ^ 26 + 2 rounds to
 -- 2 ^ 26: so the sums stay within 2 ^ 26 however many terms they get, and times the constants within 2 ^ 27. Assumes nothing.
+use Rattle.std.specs.Prelude.{Err, Result}
 use Rattle.std.specs.Prelude.{Ok}
 use Rattle.rules.specs.Answers.{refused}
 use mathlib.Core.List.{List}
@@ -109,9 +110,9 @@ coefficients-finite w h l s k =
     all_map f (coefficients-within w h l s k)
 
 -- ---- and what the call answers, for every input
-abbrev pub FiniteAnswer : Irradiance → Type 0
+abbrev pub FiniteAnswer : Result Sh4 Refusal → Type 0
 FiniteAnswer (Ok s) = AllOf (λ x. T (finite x)) s
-FiniteAnswer (refused n) = Unit
+FiniteAnswer (Err refusal) = Unit
 
 pub answer-finite : (kind w h : ℕ) (l : List ℕ) → Words l → FiniteAnswer (irradiance_answer kind w h l)
 unfolding irradiance_answer

@@ -43,7 +43,7 @@ impl Cubemap<'_> {
             g: 0.0,
             b: 0.0,
         };
-        let mut sums = Sh4 {
+        let mut sums = Basis {
             constant: black,
             y: black,
             z: black,

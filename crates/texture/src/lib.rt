@@ -1,4 +1,4 @@
-// The texture unit: every public call, and the records, answers and refusals of the calls. No call has a `requires`; what each answers and
+// The texture unit: every public call, and the records, answers and refusals of the calls, with the picture of which nothing is refused. No call has a `requires`; what each answers and
 // what it leaves in the buffers that it was lent is said in crates/rules/specs/Answers.antt.
 #![tactic(auto)]
 
@@ -6,6 +6,8 @@ pub use levels::chain::generate_mipmaps;
 pub use levels::check::{check_chain, check_level};
 pub use levels::cross::cut_cross;
 pub use levels::cut::cut;
+pub use levels::picture::Picture;
+pub use levels::refusals::check_room;
 pub use levels::sizes::level_sizes;
 pub use levels::view::{Face, face_of, level_view, level_view_refusal};
 pub use lookups::{
