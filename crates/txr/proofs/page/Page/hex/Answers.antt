@@ -1,6 +1,6 @@
--- `txr::digits::hex` meets its contract.
+-- `txr::page::Page::hex` meets its contract.
 use Rattle.txr.specs.Digits.{hex_of}
-use Rattle.txr.proofs.digits.hex.Goals as goal
+use Rattle.txr.proofs.page.Page.hex.Goals as goal
 
 pub returns : goal.returns
 unfolding hex_of
