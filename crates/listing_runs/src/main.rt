@@ -2,7 +2,7 @@
 // tools/listing_runs.py makes the stored stdin and stdout, the answers from document 01's text alone.
 #![tactic(auto)]
 
-ghost use Rattle.std.specs.Prelude.{◌≡◌, min, take, IfSome, OnOk};
+ghost use Rattle.std.specs.Prelude.{take, IfSome, OnOk};
 ghost use Rattle.std.specs.Io.KnownBytes.{Appends};
 ghost use Rattle.listing_runs.specs.Runs.{listings_of};
 
@@ -14,23 +14,17 @@ use txr::{read_front, write_listing};
 // No more bytes are read.
 const MOST: u64 = 65536;
 
-fn least(a: usize, b: usize) -> usize
-    ensures { result ≡ min a b }
-{
-    if a < b { a } else { b }
-}
-
 // The listings of all, one after the other.
 fn show_all<W: Write>(runs: &[u8], writer: &mut W) -> io::Result<()>
     ensures { OnOk result (Appends (W.contents writer.old) (W.contents writer.new) (listings_of runs.now)) }
 {
-    let mut at = 0;
-    while at + 1 < runs.len() {
-        let from = at + 2;
-        let size = (runs[at] as usize) + (runs[at + 1] as usize) * 256;
-        let end = least(from + size, runs.len());
-        write_listing(&runs[from..end], writer)?;
-        at = end;
+    // A while: each input's length says where the next one starts.
+    let mut rest = runs;
+    while let Some((length, behind)) = rest.split_first_chunk::<2>() {
+        let size = usize::from(u16::from_le_bytes(*length));
+        let (input, next) = behind.split_at(size.min(behind.len()));
+        write_listing(input, writer)?;
+        rest = next;
     }
     Ok(())
 }

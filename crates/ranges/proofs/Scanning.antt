@@ -1,14 +1,15 @@
 -- A scan goes texel by texel: what it has found of the first i is what they have, and with one byte more the smallest is the smaller
 -- of the two, the largest the larger. One law over the channel. Assumes nothing.
-use mathlib.Core.Path.{◌≡◌, sym, ap, ◌∙◌}
-use mathlib.Core.List.{List, [], ◌∷◌, ◌++◌, map, map-append}
-use Prim.Native.Nat.{ℕ, ◌+◌, ◌<◌}
+use mathlib.Core.Path.{◌≡◌, sym, ◌∙◌}
+use mathlib.Core.List.{List, [], ◌∷◌, ◌++◌, map, map-append, append_assoc}
+use Prim.Native.Nat.{ℕ, ◌+◌, ◌≤◌, ◌<◌}
 use native.Mathlib.Numerals.{add-one}
 use lib.ListN.{length, get_or, take}
-use lib.Seq.{sets, take-suc}
+use lib.Seq.{sets, sets-eq, take-suc, drop-drop}
+use borrow.Rule.Slice.PartMut.{put_mid}
 use Rattle.rules.specs.Kinds.{red_of, green_of, blue_of, alpha_of}
 use Rattle.rules.specs.Ranges.{range_of}
-use Rattle.rules.proofs.Tiles.{smallest-none, largest-none, smallest-last, largest-last, range-is}
+use Rattle.rules.proofs.Tiles.{smallest-none, largest-none, smallest-last, largest-last, length-range, range-is}
 use Rattle.ranges.specs.declared.scan.Ends.{Ends}
 use Rattle.ranges.specs.declared.scan.Range.{Range}
 use Rattle.ranges.specs.Scans.{Widened, WithTexel, EndsOf, RangeIs, bytes_of}
@@ -49,6 +50,9 @@ range-bytes {l} is =
     range-is l is.red.low is.red.high is.green.low is.green.high is.blue.low is.blue.high is.alpha.low is.alpha.high
 
 -- and so are they once they are stored
-pub range-stored : {t : List ℕ} {r : Range} {a b : ℕ} (ranges made : List ℕ) → made ≡ sets ranges a (bytes_of r) → a ≡ b → RangeIs t r
-    → made ≡ sets ranges b (range_of t)
-range-stored {t} {r} {a} {b} ranges made e at is = e ∙ ap (λ (i : ℕ). sets ranges i (bytes_of r)) at ∙ ap (λ (v : List ℕ). sets ranges b v) (range-bytes is)
+pub range-stored : {t : List ℕ} {r : Range} (a b k : ℕ) (ranges part : List ℕ) → RangeIs t r → part ≡ bytes_of r → k ≡ 8 → a ≡ b → a + 8 ≤ length ranges
+    → put_mid a k ranges part ≡ sets ranges b (range_of t)
+range-stored {t} a b k ranges part is e eight at room =
+    let bytes : part ≡ range_of t = e ∙ range-bytes is in
+    let whole = sets-eq (range_of t) ranges b (rw (← at, length-range t) room) in
+    rw (bytes, at, eight, whole, length-range t, drop-drop 8 b ranges, append_assoc)

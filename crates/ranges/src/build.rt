@@ -1,42 +1,42 @@
 // Building the ranges: tile after tile, row by row.
-ghost use Rattle.std.specs.Prelude.{◌≡◌, ◌++◌, length, drop};
+ghost use Rattle.std.specs.Prelude.{◌≡◌, ◌++◌, ◌≤◌, length, drop};
 ghost use Rattle.rules.specs.Ranges.{ranges_of, ranges_size};
 ghost use Rattle.rules.specs.Answers.{ranges_answer, ranges_leaves};
-ghost use Rattle.rules.proofs.RefusingRanges.{Ranged};
 
-use crate::refusals::ranges_refusal;
-use crate::tile::{ranges_size, tiles, write_tile};
-use rules::Written;
+use crate::refusals::check_ranges;
+use crate::tile::{Level0, ranges_size, tiles};
+use rules::Refusal;
 
 // Writes the range of every tile.
-fn write_tiles(kind: u32, width: u32, height: u32, texels: &[u32], ranges: &mut [u8])
-    requires { Ranged kind width height (length texels.now) (length ranges.old) }
-    ensures { ranges.new ≡ ranges_of width height texels.now ++ drop (ranges_size width height) ranges.old }
+fn write_tiles(level: Level0<'_>, ranges: &mut [u8])
+    requires { ranges_size level.width level.height ≤ length ranges.old }
+    ensures { ranges.new ≡ ranges_of level.entry.width level.entry.height level.entry.texels.now ++ drop (ranges_size level.entry.width level.entry.height) ranges.old }
 {
-    let across = tiles(width);
-    let all = tiles(height) * across;
-    let mut n = 0;
-    while n < all {
-        write_tile(kind, width, height, texels, n % across, n / across, ranges);
-        n += 1;
+    let across = tiles(level.width);
+    for n in 0..tiles(level.height) * across {
+        level.write_tile(n % across, n / across, ranges);
     }
 }
 
 // Fills the front of `ranges` with those of the picture's level 0 and answers the bytes written.
+#[tactic(auto, using(rules::proofs::Answering::answer_as, rules::proofs::Answering::leaves_as), unfolding(rules::specs::Answers::ranges_answer, rules::specs::Answers::ranges_leaves))]
 pub fn build_ranges(
     kind: u32,
     width: u32,
     height: u32,
     texels: &[u32],
     ranges: &mut [u8],
-) -> Written
+) -> Result<usize, Refusal>
     ensures answer { result ≡ ranges_answer kind width height texels.now ranges.old }
     ensures leaves { ranges.new ≡ ranges_leaves kind width height texels.now ranges.old }
 {
-    let refusal = ranges_refusal(kind, width, height, texels.len(), ranges.len());
-    if refusal != 0 {
-        return Written::Refused(refusal);
-    }
-    write_tiles(kind, width, height, texels, ranges);
-    Written::Bytes(ranges_size(width, height))
+    check_ranges(kind, width, height, texels.len(), ranges.len())?;
+    let level = Level0 {
+        kind,
+        width,
+        height,
+        texels,
+    };
+    write_tiles(level, ranges);
+    Ok(ranges_size(width, height))
 }

@@ -1,12 +1,14 @@
 // Replacing one texel: its tile's range is worked out of the tile again, since the texel that left may have been an extreme.
 ghost use Rattle.std.specs.Prelude.{◌≡◌, length};
 ghost use Rattle.rules.specs.Refusals.{replace_refusal};
-ghost use Rattle.rules.specs.Answers.{replace_leaves, replace_ranges_leaves};
+ghost use Rattle.rules.specs.Answers.{told, replace_leaves, replace_ranges_leaves};
 
-use crate::refusals::replace_refusal;
-use crate::tile::write_tile;
+use crate::refusals::check_replace;
+use crate::tile::Level0;
+use rules::Refusal;
 
 // Puts a texel at (x, y) of level 0 and brings its tile's range up to date. The other levels are not made again.
+#[tactic(auto, using(rules::proofs::Answering::leaves_as), unfolding(rules::specs::Answers::replace_leaves, rules::specs::Answers::replace_ranges_leaves))]
 pub fn replace_texel(
     kind: u32,
     width: u32,
@@ -16,17 +18,20 @@ pub fn replace_texel(
     x: u32,
     y: u32,
     texel: u32,
-) -> u32
-    ensures number { result ≡ replace_refusal kind width height (length texels.old) (length ranges.old) x y }
+) -> Result<(), Refusal>
+    ensures answer { result ≡ told (replace_refusal kind width height (length texels.old) (length ranges.old) x y) }
     ensures texels { texels.new ≡ replace_leaves kind width height texels.old ranges.old x y texel }
     ensures ranges { ranges.new ≡ replace_ranges_leaves kind width height texels.old ranges.old x y texel }
 {
-    let refusal = replace_refusal(kind, width, height, texels.len(), ranges.len(), x, y);
-    if refusal != 0 {
-        return refusal;
-    }
+    check_replace(kind, width, height, texels.len(), ranges.len(), x, y)?;
     let at = (y as usize) * (width as usize) + (x as usize);
     texels[at] = texel;
-    write_tile(kind, width, height, texels, x / 16, y / 16, ranges);
-    0
+    let level = Level0 {
+        kind,
+        width,
+        height,
+        texels,
+    };
+    level.write_tile(x / 16, y / 16, ranges);
+    Ok(())
 }

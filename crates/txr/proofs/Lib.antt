@@ -3,4 +3,3 @@ pub mod Files
 pub mod Listings
 pub mod Reading
 pub mod Spelling
-pub mod Writings

@@ -1,38 +1,34 @@
 -- How many bytes numbers, lines and the listing take: a digit each, and no number here has more than four decimal digits.
 -- Assumes nothing.
 use mathlib.Core.Path.{◌≡◌, refl, sym, ap, ◌∙◌}
-use mathlib.Core.List.{List}
+use mathlib.Core.List.{List, [], ◌∷◌, ◌++◌}
 use Prim.Native.Nat.{ℕ, zero, suc, ◌+◌, ◌-◌, ◌/◌, ◌%◌, ◌≤◌, ◌<◌}
 use native.Mathlib.Nat.{le_refl}
 use native.Mathlib.Decide.{dec_le}
 use native.Mathlib.Omega.{arith}
-use lib.ListN.{length, length-append, set}
+use lib.ListN.{length, length-append}
 use borrow.Author.Tests.{lt-ltb, le-ltb}
 use Rattle.txr.specs.Digits.{digit_of, digits_of, places_in, places_of, decimal_of, hex_of}
 use Rattle.txr.specs.Listing.{field_of, line_of, refused_line}
-use Rattle.txr.specs.Writing.{Written}
-use Rattle.txr.proofs.Writings.{written_none, written_one, written-long}
+
+-- a page that grew
+pub grown : (a b : List ℕ) {s : List ℕ} → s ≡ a ++ b → length s ≡ length a + length b
+grown a b e = ap length e ∙ length-append a b
 
 pub length_digits : (base k n : ℕ) → length (digits_of base k n) ≡ k
 unfolding digits_of
 length_digits base zero n = refl
 length_digits base (suc k) n = length-append (digits_of base k (n / base)) _ ∙ omega (arith, length_digits base k (n / base))
 
--- no digits, and one more by a store
-pub digits-none : (base k n at : ℕ) (old : List ℕ) → k ≡ 0 → at ≤ length old → Written at old (digits_of base k n) at old
+-- no digits, and one more
+pub digits-none : (base k n : ℕ) → k ≡ 0 → digits_of base k n ≡ []
 unfolding digits_of
-digits-none base k n at old e le = rw e (written_none at old le)
+digits-none base k n e = rw e
 
-pub digits_more : (base k n at p v : ℕ) (old s : List ℕ) → 0 < k → at + k ≤ length old
-    → Written at old (digits_of base (k - 1) (n / base)) p s → v ≡ digit_of (n % base)
-    → (p < length s) × Written at old (digits_of base k n) (p + 1) (set s p v)
+pub digits_more : (base k n : ℕ) → (k ≡ 0 → ⊥) → digits_of base k n ≡ digits_of base (k - 1) (n / base) ++ (digit_of (n % base) ∷ [])
 unfolding digits_of
-digits_more base zero n at p v old s pos room w e = absurd (omega arith)
-digits_more base (suc k) n at p v old s pos room w e =
-    let z : suc k - 1 ≡ k = omega arith in
-    let w' = rw z at w in
-    let lt : p < length s = omega (arith, w'.ends, length_digits base k (n / base), written-long w') in
-    (lt, rw (← e) (written_one w' v lt))
+digits_more base zero n some = absurd (some refl)
+digits_more base (suc k) n some = let same : suc k - 1 ≡ k = omega arith in rw same
 
 -- ---- how many decimal digits
 

@@ -1,12 +1,11 @@
 -- A TXR file: its header, the number that refuses it, and its level 0. Definitions only.
-use Rattle.std.specs.Prelude.{Bool, ◌&&◌, List, ℕ, ◌+◌, ◌*◌, leb, eqb, length, get_or}
+use Rattle.std.specs.Prelude.{Bool, ◌&&◌, Result, Ok, List, ℕ, ◌+◌, ◌*◌, leb, eqb, length, get_or}
 use Rattle.rules.specs.Kinds.{faces_of, rgba}
 use Rattle.rules.specs.Levels.{tab}
 use Rattle.rules.specs.Refusals.{◌or_else◌, unless, chain_refusal}
-use Rattle.rules.specs.Answers.{answer}
+use Rattle.rules.specs.Answers.{answer, refused}
 use Rattle.txr.specs.declared.Header.{Header}
-use Rattle.txr.specs.declared.Parsed.{Parsed}
-use Rattle.txr.specs.declared.Parsed.TheVariants.{Picture, Refused}
+use Rattle.rules.specs.declared.Refusal.{Refusal}
 
 -- the 16-bit number at byte i, little-endian
 unfoldable pub word_at : List ℕ → ℕ → ℕ
@@ -64,6 +63,6 @@ length_refusal b = unless (eqb (length b) (10 + 4 * size_in b)) 12
 unfoldable pub file_refusal : List ℕ → ℕ
 file_refusal b = header_refusal b or_else levels_refusal b or_else length_refusal b
 
--- a file's header, or the number that refuses it
-unfoldable pub file_answer : List ℕ → Parsed
-file_answer b = answer (file_refusal b) Refused (Picture (header_in b))
+-- a file's header, or why it is refused
+unfoldable pub file_answer : List ℕ → Result Header Refusal
+file_answer b = answer (file_refusal b) refused (Ok (header_in b))

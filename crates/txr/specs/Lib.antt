@@ -2,4 +2,3 @@
 pub mod File
 pub mod Digits
 pub mod Listing
-pub mod Writing

@@ -33,10 +33,14 @@ level_lines kind w h chain (suc n) = level_lines kind w h chain n ++ level_line 
 unfoldable pub refused_line : ℕ → List ℕ
 refused_line n = (0x72 ∷ 0x65 ∷ 0x66 ∷ 0x75 ∷ 0x73 ∷ 0x65 ∷ 0x64 ∷ 32 ∷ []) ++ (decimal_of n ++ newline)
 
--- one line a level, truncating, or `refused N`
-unfoldable pub listing_of : List ℕ → List ℕ
-listing_of b =
+-- one line a level, truncating
+abbrev pub file_lines : List ℕ → List ℕ
+file_lines b =
     let kind = kind_in b in
     let w = width_in b in
     let h = height_in b in
-    answer (file_refusal b) refused_line (level_lines kind w h (chain_of kind Truncating w h (level_in b)) (suc (top w h)))
+    level_lines kind w h (chain_of kind Truncating w h (level_in b)) (suc (top w h))
+
+-- the same, or `refused N`
+unfoldable pub listing_of : List ℕ → List ℕ
+listing_of b = answer (file_refusal b) refused_line (file_lines b)

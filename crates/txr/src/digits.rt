@@ -1,7 +1,9 @@
-// Numbers as text, in ASCII, written into a lent buffer from a place on. Each answers the place behind what it wrote.
-ghost use Rattle.std.specs.Prelude.{◌≡◌, ◌+◌, ◌<◌, ◌≤◌, length};
+// Numbers as text, in ASCII.
+// By hand: a `write!` promises its text only where it answers Ok, and no writer promises that it does.
+ghost use Rattle.std.specs.Prelude.{◌≡◌, ◌+◌, ◌<◌, ◌≤◌, ◌++◌, length};
 ghost use Rattle.txr.specs.Digits.{digit_of, digits_of, places_of, decimal_of, hex_of};
-ghost use Rattle.txr.specs.Writing.{Written};
+
+use crate::page::Page;
 
 // A digit: 0 to 9, then capital A to F.
 fn digit(d: u32) -> u8
@@ -11,44 +13,45 @@ fn digit(d: u32) -> u8
     if d < 10 { 48 + d as u8 } else { 55 + d as u8 }
 }
 
-// The last k digits of n in a base: those of the quotient, and then that of the remainder.
-fn digits(base: u32, k: usize, n: u32, at: usize, out: &mut [u8]) -> usize
-    requires { (0 < base) × (base ≤ 16) × (at + k ≤ length out.old) }
-    ensures { Written at out.old (digits_of base k n) result out.new }
-{
-    if k == 0 {
-        return at;
-    }
-    let next = digits(base, k - 1, n / base, at, out);
-    out[next] = digit(n % base);
-    next + 1
-}
-
 // How many decimal digits n has.
 fn places(n: u32) -> usize
     ensures { result ≡ places_of n }
 {
+    // A while: what is left is divided by ten until it is a digit.
     let mut rest = n;
     let mut k = 1;
     while 10 <= rest {
-        rest = rest / 10;
+        rest /= 10;
         k += 1;
     }
     k
 }
 
-// A number in decimal.
-pub fn decimal(n: u32, at: usize, out: &mut [u8]) -> usize
-    requires { at + length (decimal_of n) ≤ length out.old }
-    ensures { Written at out.old (decimal_of n) result out.new }
-{
-    digits(10, places(n), n, at, out)
-}
+impl Page {
+    // The last k digits of n in a base: those of the quotient, and then that of the remainder.
+    fn digits(&mut self, base: u32, k: usize, n: u32)
+        requires { (0 < base) × (base ≤ 16) × (length self.old + k ≤ 512) }
+        ensures { self.new ≡ self.old ++ digits_of base k n }
+    {
+        if k != 0 {
+            self.digits(base, k - 1, n / base);
+            self.text(&[digit(n % base)]);
+        }
+    }
 
-// A texel as eight hex digits.
-pub fn hex(texel: u32, at: usize, out: &mut [u8]) -> usize
-    requires { at + 8 ≤ length out.old }
-    ensures { Written at out.old (hex_of texel) result out.new }
-{
-    digits(16, 8, texel, at, out)
+    // A number in decimal.
+    pub fn decimal(&mut self, n: u32)
+        requires { length self.old + length (decimal_of n) ≤ 512 }
+        ensures { self.new ≡ self.old ++ decimal_of n }
+    {
+        self.digits(10, places(n), n);
+    }
+
+    // A texel as eight hex digits.
+    pub fn hex(&mut self, texel: u32)
+        requires { length self.old + 8 ≤ 512 }
+        ensures { self.new ≡ self.old ++ hex_of texel }
+    {
+        self.digits(16, 8, texel);
+    }
 }

@@ -1,12 +1,15 @@
-// A TXR file: its header, the number that refuses it, and its level 0.
-ghost use Rattle.std.specs.Prelude.{◌≡◌, ◌+◌, ◌*◌, ◌<◌, ◌≤◌, length};
+// A TXR file: its header, why it is refused, and its level 0.
+ghost use Rattle.std.specs.Prelude.{◌≡◌, ◌==◌, ◌+◌, ◌*◌, ◌<◌, ◌≤◌, length, IfOk};
 ghost use Rattle.rules.specs.Levels.{tab};
-ghost use Rattle.txr.specs.File.{word_at, marked, header_in, texel_in, header_refusal, levels_refusal, length_refusal, file_refusal, file_answer};
-ghost use Rattle.txr.specs.Writing.{Written};
+ghost use Rattle.rules.specs.Refusals.{unless};
+ghost use Rattle.rules.specs.Answers.{done, told};
+ghost use Rattle.levels.specs.Pictures.{IsPicture};
+ghost use Rattle.txr.specs.File.{word_at, marked, kind_in, width_in, height_in, header_in, texel_in, header_refusal, file_refusal, file_answer};
 
-use crate::{Header, Parsed};
-use levels::refusals::chain_refusal;
-use levels::sizes::{faces_of, start_of};
+use crate::Header;
+use levels::layout::Layout;
+use levels::picture::Picture;
+use rules::Refusal;
 use texel::bytes::rgba;
 
 // The 16-bit number at byte i, little-endian.
@@ -14,7 +17,7 @@ fn word_at(input: &[u8], i: usize) -> u32
     requires { i + 1 < length input.now }
     ensures { result ≡ word_at input.now i }
 {
-    (input[i] as u32) + (input[i + 1] as u32) * 256
+    u32::from(u16::from_le_bytes([input[i], input[i + 1]]))
 }
 
 // Mark TXR, 16-bit version 1.
@@ -22,26 +25,20 @@ fn marked(input: &[u8]) -> bool
     requires { 5 ≤ length input.now }
     ensures { result ≡ marked input.now }
 {
-    if input[0] != b'T' {
-        return false;
-    }
-    if input[1] != b'X' {
-        return false;
-    }
-    if input[2] != b'R' {
-        return false;
-    }
-    word_at(input, 3) == 1
+    input.starts_with(b"TXR") && word_at(input, 3) == 1
 }
 
-// Fewer than 10 bytes, mark or version wrong, 12.
-fn header_refusal(input: &[u8]) -> u32
-    ensures { result ≡ header_refusal input.now }
+// 12: fewer than 10 bytes, mark or version wrong.
+#[tactic(auto, unfolding(crate::specs::File::header_refusal, rules::specs::Refusals::refusal_of, rules::specs::Answers::answer))]
+fn check_header(input: &[u8]) -> Result<(), Refusal>
+    ensures told { result ≡ told (header_refusal input.now) }
+    ensures ten { IfOk result (λ _. 10 ≤ length input.now) }
 {
-    if input.len() < 10 {
-        return 12;
+    if 10 <= input.len() && marked(input) {
+        Ok(())
+    } else {
+        Err(Refusal::NotTheFile)
     }
-    if marked(input) { 0 } else { 12 }
 }
 
 // Kind byte, 16-bit width and height.
@@ -50,46 +47,46 @@ fn header(input: &[u8]) -> Header
     ensures { result ≡ header_in input.now }
 {
     Header {
-        kind: input[5] as u32,
+        kind: u32::from(input[5]),
         width: word_at(input, 6),
         height: word_at(input, 8),
     }
 }
 
-// Length not exact, 12. Level 0 ends where level 1 would start.
-fn length_refusal(input: &[u8], of: Header) -> u32
-    requires { (of ≡ header_in input.now) × (levels_refusal input.now ≡ 0) }
-    ensures { result ≡ length_refusal input.now }
+// 12: length not exact, for so many texels.
+#[tactic(auto, unfolding(rules::specs::Refusals::refusal_of, rules::specs::Answers::answer))]
+fn check_length(input: &[u8], size: usize) -> Result<(), Refusal>
+    requires { size ≤ 16384 }
+    ensures { result ≡ told (unless (length input.now == 10 + 4 * size) 12) }
 {
-    let size = start_of(faces_of(of.kind), of.width, of.height, 1);
-    if input.len() == 10 + 4 * size { 0 } else { 12 }
+    if input.len() == 10 + 4 * size {
+        Ok(())
+    } else {
+        Err(Refusal::NotTheFile)
+    }
 }
 
-// 12; 1; 2; a chain above 16,384 texels, 3; 12.
-fn file_refusal(input: &[u8]) -> u32
-    ensures { result ≡ file_refusal input.now }
+// The picture of a file. 12; 1; 2; a chain above 16,384 texels, 3; 12.
+#[tactic(auto, using(rules::proofs::Answering::answer_or), unfolding(crate::specs::File::file_refusal, crate::specs::File::length_refusal))]
+pub fn picture_in(input: &[u8]) -> Result<Picture, Refusal>
+    ensures told { done result ≡ told (file_refusal input.now) }
+    ensures ten { IfOk result (λ _. 10 ≤ length input.now) }
+    ensures is { IfOk result (λ p. IsPicture (kind_in input.now) (width_in input.now) (height_in input.now) p) }
 {
-    let first = header_refusal(input);
-    if first != 0 {
-        return first;
-    }
+    check_header(input)?;
     let of = header(input);
-    let levels = chain_refusal(of.kind, of.width, of.height, 16384);
-    if levels != 0 {
-        return levels;
-    }
-    length_refusal(input, of)
+    let picture = Layout::new(of.kind, of.width, of.height, 16384)?.picture;
+    check_length(input, picture.level0())?;
+    Ok(picture)
 }
 
-// A file's header, or the number that refuses it.
-pub fn parse(input: &[u8]) -> Parsed
+// A file's header, or why it is refused.
+#[tactic(auto, using(rules::proofs::Answering::answer_as), unfolding(crate::specs::File::file_answer))]
+pub fn parse(input: &[u8]) -> Result<Header, Refusal>
     ensures answer { result ≡ file_answer input.now }
 {
-    let refusal = file_refusal(input);
-    if refusal != 0 {
-        return Parsed::Refused(refusal);
-    }
-    Parsed::Picture(header(input))
+    picture_in(input)?;
+    Ok(header(input))
 }
 
 // Texel i of level 0.
@@ -101,14 +98,12 @@ fn texel(input: &[u8], i: usize) -> u32
     rgba(input[at], input[at + 1], input[at + 2], input[at + 3])
 }
 
-// The n texels of level 0, at the front of the texels lent.
-pub fn load(n: usize, input: &[u8], texels: &mut [u32])
-    requires { (10 + 4 * n ≤ length input.now) × (n ≤ length texels.old) }
-    ensures { Written 0 texels.old (tab n (texel_in input.now)) n texels.new }
+// The texels of level 0.
+pub fn load(input: &[u8], texels: &mut [u32])
+    requires { 10 + 4 * length texels.old ≤ length input.now }
+    ensures { texels.new ≡ tab (length texels.old) (texel_in input.now) }
 {
-    let mut i = 0;
-    while i < n {
-        texels[i] = texel(input, i);
-        i += 1;
+    for (i, place) in texels.iter_mut().enumerate() {
+        *place = texel(input, i);
     }
 }

@@ -5,6 +5,7 @@ mod digits;
 mod file;
 mod lines;
 mod listing;
+mod page;
 mod stream;
 
 pub use file::parse;
@@ -17,11 +18,4 @@ pub struct Header {
     pub kind: u32,
     pub width: u32,
     pub height: u32,
-}
-
-// A file: its header, or the number that refuses it.
-#[derive(Clone, Copy)]
-pub enum Parsed {
-    Picture(Header),
-    Refused(u32),
 }

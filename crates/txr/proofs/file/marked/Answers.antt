@@ -1,20 +1,11 @@
--- `txr::file::marked` meets its contract, a test a byte.
-use borrow.Author.Tests.{eq-eqb, ne_eqb}
-use Rattle.txr.specs.File.{marked}
+-- `txr::file::marked` meets its contract.
+use Rattle.txr.proofs.Files.{marked-starts}
 use Rattle.txr.proofs.file.marked.Goals as goal
 
-pub returns-then-input-ne84 : goal.returns-then-input-ne84
-unfolding marked
-returns-then-input-ne84 c = rw (ne_eqb _ 84 c.if-input-ne84.true)
+pub returns-then-starts_with : goal.returns-then-starts_with
+returns-then-starts_with c =
+    rw (marked-starts c.args.input.now c.requires, ← c.starts_with.ensures.value, c.if-starts_with.true, c.word_at.ensures)
 
-pub returns-then-input-ne88 : goal.returns-then-input-ne88
-unfolding marked
-returns-then-input-ne88 c = rw (eq-eqb _ 84 c.if-input-ne84.false, ne_eqb _ 88 c.if-input-ne88.true)
-
-pub returns-then-input-ne82 : goal.returns-then-input-ne82
-unfolding marked
-returns-then-input-ne82 c = rw (eq-eqb _ 84 c.if-input-ne84.false, eq-eqb _ 88 c.if-input-ne88.false, ne_eqb _ 82 c.if-input-ne82.true)
-
-pub returns : goal.returns
-unfolding marked
-returns c = rw (eq-eqb _ 84 c.if-input-ne84.false, eq-eqb _ 88 c.if-input-ne88.false, eq-eqb _ 82 c.if-input-ne82.false, c.word_at.ensures)
+pub returns-else-starts_with : goal.returns-else-starts_with
+returns-else-starts_with c =
+    rw (marked-starts c.args.input.now c.requires, ← c.starts_with.ensures.value, c.if-starts_with.false)

@@ -1,34 +1,46 @@
 -- `txr::listing::level_line` meets its contract.
 use native.Mathlib.Omega.{arith}
-use Prim.Native.Nat.{◌<◌}
+use mathlib.Core.Path.{◌∙◌}
 use lib.ListN.{length}
-use Rattle.txr.proofs.Listings.{level-numbers, level-inside, level-most, line-found}
+use Rattle.rules.specs.Kinds.{code_of}
+use Rattle.rules.proofs.Bounds.{top-most}
+use Rattle.txr.specs.Listing.{level_line}
+use Rattle.txr.proofs.Listings.{level-inside, level-most}
 use Rattle.txr.proofs.listing.level_line.Goals as goal
-use Rattle.txr.proofs.listing.level_line.Goals.{After-start_of-start}
 
-inside : (c : goal.After-start_of-start) → c.start_of-start.result < length c.args.chain.now
-inside c = rw (c.start_of-start.ensures, c.faces_of.ensures) (level-inside c.args.kind c.args.width c.args.height (length c.args.chain.now) c.args.m c.requires.0 c.requires.1)
+pub start_of-requires : goal.start_of-requires
+start_of-requires c =
+    let p = c.args.picture in
+    omega (arith, top-most p.width p.height p.sides.some-w p.sides.most-w p.sides.most-h)
 
-pub start_of-start-requires : goal.start_of-start-requires
-start_of-start-requires c = omega (arith, level-numbers c.args.kind c.args.width c.args.height (length c.args.chain.now) c.args.m c.requires.0 c.requires.1, c.faces_of.ensures)
+pub width_at-requires : goal.width_at-requires
+width_at-requires c =
+    let p = c.args.picture in
+    omega (arith, top-most p.width p.height p.sides.some-w p.sides.most-w p.sides.most-h)
 
-pub offset_bounds-chain-start : goal.offset_bounds-chain-start
-offset_bounds-chain-start c = omega (arith, level-numbers c.args.kind c.args.width c.args.height (length c.args.chain.now) c.args.m c.requires.0 c.requires.1, inside c)
+pub height_at-requires : goal.height_at-requires
+height_at-requires c =
+    let p = c.args.picture in
+    omega (arith, top-most p.width p.height p.sides.some-w p.sides.most-w p.sides.most-h)
 
-pub bounds-chain-start : goal.bounds-chain-start
-bounds-chain-start c = inside (goal.at.bounds-chain-start c).After-start_of-start
+pub offset_bounds-chain-start_of : goal.offset_bounds-chain-start_of
+offset_bounds-chain-start_of c =
+    let p = c.args.picture in
+    omega (arith, level-inside (code_of p.kind) p.width p.height c.args.m (length c.args.chain.now) c.requires.level c.requires.room, c.start_of.ensures)
 
-pub side_at-requires : goal.side_at-requires
-side_at-requires c = omega (arith, level-numbers c.args.kind c.args.width c.args.height (length c.args.chain.now) c.args.m c.requires.0 c.requires.1)
-
-pub side_at-requires-2 : goal.side_at-requires-2
-side_at-requires-2 c = omega (arith, level-numbers c.args.kind c.args.width c.args.height (length c.args.chain.now) c.args.m c.requires.0 c.requires.1)
+pub bounds-chain-start_of : goal.bounds-chain-start_of
+bounds-chain-start_of c =
+    let p = c.args.picture in
+    rw c.start_of.ensures (level-inside (code_of p.kind) p.width p.height c.args.m (length c.args.chain.now) c.requires.level c.requires.room)
 
 pub line-requires : goal.line-requires
+unfolding level_line
 line-requires c =
-    rw (line-found c.args.kind c.args.width c.args.height c.args.m _ _ _ _ c.args.chain.now c.faces_of.ensures c.start_of-start.ensures c.side_at.ensures c.side_at-2.ensures)
-    (omega (arith, level-most c.args.kind c.args.width c.args.height (length c.args.chain.now) c.args.m c.requires.0 c.requires.1 c.args.chain.now))
+    let p = c.args.picture in
+    let s = p.sides in
+    let short = level-most (code_of p.kind) p.width p.height s.some-w s.most-w s.some-h s.most-h c.args.m c.requires.level c.args.chain.now in
+    rw (c.width_at.ensures, c.height_at.ensures, c.start_of.ensures) (omega (arith, short))
 
 pub returns : goal.returns
-returns c =
-    rw (← line-found c.args.kind c.args.width c.args.height c.args.m _ _ _ _ c.args.chain.now c.faces_of.ensures c.start_of-start.ensures c.side_at.ensures c.side_at-2.ensures) c.line.ensures
+unfolding level_line
+returns c = c.line.ensures ∙ rw (c.width_at.ensures, c.height_at.ensures, c.start_of.ensures)

@@ -1,41 +1,37 @@
 use native.Mathlib.Omega.{arith}
-use mathlib.Core.Path.{◌≡◌}
-use Prim.Native.Nat.{suc, ◌≤◌}
-use lib.ListN.{length}
-use Rattle.rules.specs.Kinds.{faces_of}
+use native.Mathlib.Numerals.{add-one}
+use mathlib.Core.Path.{◌≡◌, ◌∙◌}
+use Prim.Native.Nat.{suc}
+use Rattle.rules.specs.Kinds.{code_of}
 use Rattle.rules.specs.Sizes.{top}
-use Rattle.txr.proofs.Listings.{lined-first, lined-more, level-numbers}
+use Rattle.rules.proofs.Bounds.{top-most}
+use Rattle.txr.specs.Listing.{level_lines}
+use Rattle.txr.proofs.Listings.{lines-short}
 use Rattle.txr.proofs.listing.level_lines.Goals as goal
-use Rattle.txr.proofs.listing.level_lines.Goals.{In-loop-m}
-
--- in a turn: the level is one of the picture's, and its numbers are small
-below : (c : goal.In-loop-m) → c.loop-m.m ≤ top c.args.width c.args.height
-below c = omega arith
-
-numbers : (c : goal.In-loop-m) → (faces_of c.args.kind ≤ 6) × (c.args.width ≤ 4096) × (c.args.height ≤ 4096) × (c.loop-m.m ≤ 12)
-numbers c =
-    level-numbers c.args.kind c.args.width c.args.height (length c.args.chain.now) _ c.requires.0 (below c)
+use Rattle.txr.proofs.listing.level_lines.Goals.{After-level_line}
 
 pub loop-m-init : goal.loop-m-init
-loop-m-init c = lined-first _ _ _ _ _
+unfolding level_lines
+loop-m-init c = c.new-page.ensures
 
-pub level_line-at-requires : goal.level_line-at-requires
-level_line-at-requires c = (c.requires.0, below (goal.at.level_line-at-requires c).In-loop-m, omega (arith, numbers (goal.at.level_line-at-requires c).In-loop-m))
+pub level_line-requires-clause-page : goal.level_line-requires-clause-page
+level_line-requires-clause-page c =
+    let p = c.args.picture in
+    let s = p.sides in
+    let short = lines-short (code_of p.kind) p.width p.height s.some-w s.most-w s.some-h s.most-h c.args.chain.now c.loop-m.m (omega arith) in
+    rw c.loop-m.invariant (omega (arith, short, top-most p.width p.height s.some-w s.most-w s.most-h))
 
-pub overflow_add-m : goal.overflow_add-m
-overflow_add-m c = omega (arith, numbers (goal.at.overflow_add-m c).In-loop-m)
-
-pub loop-m-smaller : goal.loop-m-smaller
-loop-m-smaller c = omega arith
+-- one line more
+more : (c : goal.After-level_line)
+    → let p = c.args.picture in
+    c.level_line.new.page ≡ level_lines (code_of p.kind) p.width p.height c.args.chain.now (suc c.loop-m.m)
+unfolding level_lines
+more c = c.level_line.ensures ∙ rw c.loop-m.invariant
 
 pub loop-m-preserved : goal.loop-m-preserved
-loop-m-preserved c =
-    lined-more c.args.kind c.args.width c.args.height c.args.chain.now c.args.out.now _ _ _ _ _ c.requires.0 (below (goal.at.loop-m-preserved c).In-loop-m) c.loop-m.invariant c.level_line-at.ensures
+loop-m-preserved c = rw (add-one c.loop-m.m) (more (goal.at.loop-m-preserved c).After-level_line)
 
-pub shape_of-out : goal.shape_of-out
-shape_of-out c = c.loop-m.invariant.as_long
-
-pub returns : goal.returns
-returns c =
-    let e : c.loop-m.m ≡ suc (top c.args.width c.args.height) = omega arith in
-    rw (← e) c.loop-m.invariant.holds
+pub returns-2 : goal.returns-2
+returns-2 c =
+    let last : c.loop-m.m ≡ top c.args.picture.width c.args.picture.height = omega arith in
+    rw (← last) (more (goal.at.returns-2 c).After-level_line)

@@ -1,10 +1,8 @@
 -- `txr::listing::level_lines`: a line for each level passed.
-use Prim.Native.Nat.{◌+◌, ◌-◌}
-use Rattle.txr.proofs.Listings.{Lined}
+use mathlib.Core.Path.{◌≡◌}
+use Rattle.rules.specs.Kinds.{code_of}
+use Rattle.txr.specs.Listing.{level_lines}
 use Rattle.txr.proofs.listing.level_lines.Given as goal
 
 abbrev pub invariant-loop-m : goal.invariant-loop-m
-invariant-loop-m l = Lined l.kind l.width l.height l.chain l.initial.out l.m l.at l.out
-
-abbrev pub decreases-loop-m : goal.decreases-loop-m
-decreases-loop-m l = l.top + 1 - l.m
+invariant-loop-m l = l.page ≡ level_lines (code_of l.picture.kind) l.picture.width l.picture.height l.chain l.m

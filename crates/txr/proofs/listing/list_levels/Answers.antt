@@ -1,19 +1,55 @@
 -- `txr::listing::list_levels` meets its contract: the chain that is listed is that of the file.
 use native.Mathlib.Omega.{arith}
-use Rattle.txr.proofs.Listings.{level0-size, load-asked, chain-asked, lines-found}
+use mathlib.Core.Path.{◌≡◌, refl, sym, ap, subst, ◌∙◌}
+use Rattle.std.proofs.Common.{ℕ, ◌≤◌, ◌+◌, ◌*◌, length}
+use lib.Seq.{length-take-le}
+use Rattle.rules.proofs.Answering.{told_none}
+use Rattle.rules.proofs.Refusing.{answer-given}
+use Rattle.std.specs.Prelude.{Ok}
+use Rattle.txr.specs.File.{size_in, longest, file_refusal}
+use Rattle.txr.proofs.Listings.{load-asked, chain-made, lines-found, chain-room}
 use Rattle.txr.proofs.listing.list_levels.Goals as goal
+use Rattle.txr.proofs.listing.list_levels.Goals.{After-level0}
 
-pub overflow_sub-input : goal.overflow_sub-input
-overflow_sub-input c = (load-asked c.args.input.now c.requires.0).0
+taken : (c : goal.After-level0) → file_refusal c.args.input.now ≡ 0
+taken c = told_none _ (sym c.in_ok-picture.ensures.told)
+
+size : (c : goal.After-level0) → c.level0.result ≡ size_in c.args.input.now
+size c = let is = c.in_ok-picture.ensures.is in c.level0.ensures ∙ rw (is.0, is.1, is.2)
+
+fits : (c : goal.After-level0) → c.level0.result ≤ longest
+fits c = rw (size c) (load-asked c.args.input.now (taken c)).0
+
+pub slice_bounds-chain-end : goal.slice_bounds-chain-end
+slice_bounds-chain-end c = fits (goal.at.slice_bounds-chain-end c).After-level0
+
+pub slice_bounds-load-end : goal.slice_bounds-load-end
+slice_bounds-load-end c = sym (length-take-le _ _ (fits (goal.at.slice_bounds-load-end c).After-level0))
 
 pub load-requires : goal.load-requires
-load-requires c = let k = load-asked c.args.input.now c.requires.0 in (k.1, k.2)
+load-requires c =
+    let k = (goal.at.load-requires c).After-level0 in
+    let input = c.args.input.now in
+    subst (λ (n : ℕ). 10 + 4 * n ≤ length input) (sym (length-take-le _ _ (fits k) ∙ size k)) (load-asked input (taken k)).1
+
+pub returns-in_err-generate_mipmaps : goal.returns-in_err-generate_mipmaps
+returns-in_err-generate_mipmaps c =
+    let k = (goal.at.returns-in_err-generate_mipmaps c).After-level0 in
+    let p = c.in_ok-picture.picture in
+    let is = c.in_ok-picture.ensures.is in
+    absurd (chain-made c.args.input.now (taken k) c.code.result p.width p.height (c.code.ensures ∙ is.0) is.1 is.2 _ c.load.new.texels _ refl _ c.load.ensures (length-take-le _ _ (fits k) ∙ size k) (omega arith) _ c.in_err-generate_mipmaps.ensures.answer)
 
 pub level_lines-requires : goal.level_lines-requires
 level_lines-requires c =
-    (chain-asked c.args.input.now c.requires.0 c.args.of c.requires.1 _ (omega arith), omega arith)
+    let k = (goal.at.level_lines-requires c).After-level0 in
+    let p = c.in_ok-picture.picture in
+    let is = c.in_ok-picture.ensures.is in
+    rw (← c.code.ensures) (chain-room c.args.input.now (taken k) c.code.result p.width p.height (c.code.ensures ∙ is.0) is.1 is.2 _ (omega arith))
 
 pub returns : goal.returns
 returns c =
-    rw (← lines-found c.args.input.now c.requires.0 c.args.of c.requires.1 _ _ (omega arith) _ c.load.ensures (level0-size c.args.input.now c.requires.0) _ c.generate_mipmaps.ensures.leaves)
-    c.level_lines.ensures
+    let k = (goal.at.returns c).After-level0 in
+    let p = c.in_ok-picture.picture in
+    let is = c.in_ok-picture.ensures.is in
+    let lines = lines-found c.args.input.now (taken k) c.code.result p.width p.height (c.code.ensures ∙ is.0) is.1 is.2 _ c.load.new.texels _ refl _ c.load.ensures (length-take-le _ _ (fits k) ∙ size k) (omega arith) _ c.generate_mipmaps.ensures.leaves in
+    ap Ok (c.level_lines.ensures ∙ rw (← c.code.ensures) lines) ∙ sym (answer-given _ _ _ (taken k))
