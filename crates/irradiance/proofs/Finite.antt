@@ -1,5 +1,6 @@
 -- No coefficient is a nan or an infinity, for every picture that the call takes. A term is at most 2 in magnitude, and 2 ^ 26 + 2 rounds to
 -- 2 ^ 26: so the sums stay within 2 ^ 26 however many terms they get, and times the constants within 2 ^ 27. Assumes nothing.
+use Rattle.rules.specs.declared.Refusal.{Refusal}
 use Rattle.std.specs.Prelude.{Err, Result}
 use Rattle.std.specs.Prelude.{Ok}
 use Rattle.rules.specs.Answers.{refused}

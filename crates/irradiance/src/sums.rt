@@ -5,7 +5,7 @@ ghost use Rattle.irradiance.specs.Turns.{with_row};
 
 use crate::cubemap::Cubemap;
 use crate::tones::Tones;
-use rules::{Rgb, Sh4};
+use rules::{Basis, Rgb, Sh4};
 
 impl Cubemap<'_> {
     // The sums with row y of a face.

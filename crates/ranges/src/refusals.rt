@@ -1,36 +1,14 @@
 // What both calls refuse, test by test.
-ghost use Rattle.std.specs.Prelude.{◌≡◌, IfOk};
-ghost use Rattle.rules.specs.Kinds.{code_of};
-ghost use Rattle.rules.specs.Refusals.{no_cubemap_refusal, picture_refusal, ranges_refusal, replace_refusal};
-ghost use Rattle.rules.specs.Answers.{done, told};
+ghost use Rattle.std.specs.Prelude.{◌≡◌};
+ghost use Rattle.rules.specs.Refusals.{ranges_refusal, replace_refusal};
+ghost use Rattle.rules.specs.Answers.{told};
 
 use crate::tile::ranges_size;
-use rules::{Kind, Refusal};
-use texture::level_sizes;
-
-// The kind of a picture that is taken: 1, 2. Every picture that is taken has a level 0.
-#[tactic(auto, using(rules::proofs::RefusingRanges::level0_told))]
-fn kind_of(kind: u32, width: u32, height: u32) -> Result<Kind, Refusal>
-    ensures told { done result ≡ told (picture_refusal kind width height) }
-    ensures is { IfOk result (λ k. code_of k ≡ kind) }
-{
-    level_sizes(kind, width, height, 0)?;
-    Kind::try_from(kind)
-}
-
-// 8: a cubemap.
-#[tactic(auto, unfolding(rules::specs::Refusals::no_cubemap_refusal, rules::specs::Refusals::refusal_of, rules::specs::Answers::answer))]
-fn check_flat(kind: Kind) -> Result<(), Refusal>
-    ensures { result ≡ told (no_cubemap_refusal (code_of kind)) }
-{
-    match kind {
-        Kind::Cubemap => Err(Refusal::KindNotTaken),
-        _ => Ok(()),
-    }
-}
+use rules::Refusal;
+use texture::{Picture, check_room};
 
 // 1, 2, 3 (level 0), 3 (the ranges), 8.
-#[tactic(auto, using(rules::proofs::Answering::answer_or), unfolding(rules::specs::Refusals::ranges_refusal, rules::specs::Refusals::refusal_of, rules::specs::Answers::answer))]
+#[tactic(auto, using(rules::proofs::Answering::answer_or), unfolding(rules::specs::Refusals::ranges_refusal))]
 pub fn check_ranges(
     kind: u32,
     width: u32,
@@ -40,12 +18,10 @@ pub fn check_ranges(
 ) -> Result<(), Refusal>
     ensures { result ≡ told (ranges_refusal kind width height texels ranges) }
 {
-    let kind = kind_of(kind, width, height)?;
-    let level0 = kind.faces() * (height as usize) * (width as usize);
-    if texels < level0 || ranges < ranges_size(width, height) {
-        return Err(Refusal::ShortBuffer);
-    }
-    check_flat(kind)
+    let picture = Picture::new(kind, width, height)?;
+    check_room(picture.level0(), texels)?;
+    check_room(ranges_size(picture.width, picture.height), ranges)?;
+    picture.check_no_cubemap()
 }
 
 // The same, then 14: a place outside the picture.
