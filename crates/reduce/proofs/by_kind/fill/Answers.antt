@@ -4,10 +4,10 @@ use Rattle.kinds.proofs.Codes.{of-srgb, of-normal, of-metallic, of-linear}
 use Rattle.reduce.proofs.by_kind.fill.Goals as goal
 
 pub returns-in-0-default : goal.returns-in-0-default
-returns-in-0-default c = rw (of-srgb _ _ c.in-0-default.is-0, ← c.new.ensures) c.fill.ensures
+returns-in-0-default c = rw (of-srgb _ _ c.in-0-default.is-0) c.fill_srgb.ensures
 
 pub returns-in-1-default : goal.returns-in-1-default
-returns-in-1-default c = rw (of-normal _ _ c.in-1-default.is-0) c.fill-in-1-default.ensures
+returns-in-1-default c = rw (of-normal _ _ c.in-1-default.is-0) c.fill.ensures
 
 pub returns-in-2-default : goal.returns-in-2-default
 returns-in-2-default c = rw (of-metallic _ _ c.in-2-default.is-0) c.fill-in-2-default.ensures
