@@ -51,7 +51,8 @@ pub fn mean(p: Quad<f32>) -> f32
     (((p.p00 + p.p10) + p.p01) + p.p11) / 4.0
 }
 
-// One rule for all four channels.
+// One rule for all four channels. Compiled into its callers: a call for each texel would be felt.
+#[inline(always)]
 pub fn each<F: Fn(Quad<u8>) -> u8>(byte: F, q: Quad<u32>) -> u32
     requires { F.IsAlwaysCallable byte }
     ensures { (rule : _) → Follows (F.post byte) rule → result ≡ each_of rule q.p00 q.p10 q.p01 q.p11 }

@@ -22,6 +22,7 @@ pub fn byte(packing: Packing, p: Quad<u8>) -> u8
 impl Reduce for Linear {
     ghost rule = { λ it. linear_of it.packing };
 
+    #[inline(always)]
     fn reduced(&self, q: Quad<u32>) -> u32 {
         each(|p| byte(self.packing, p), q)
     }

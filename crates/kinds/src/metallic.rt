@@ -25,6 +25,7 @@ fn square(byte: u8) -> f32
 }
 
 // The green channel.
+#[inline(always)]
 fn byte(packing: Packing, p: Quad<u8>) -> u8
     ensures { result ≡ rough_byte packing p.p00 p.p10 p.p01 p.p11 }
 {
@@ -34,6 +35,7 @@ fn byte(packing: Packing, p: Quad<u8>) -> u8
 impl Reduce for MetallicRoughness {
     ghost rule = { λ it. metallic_of it.packing };
 
+    #[inline(always)]
     fn reduced(&self, q: Quad<u32>) -> u32 {
         rgba(
             red(q.p00),

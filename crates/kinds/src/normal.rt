@@ -30,6 +30,7 @@ fn byte(packing: Packing, p: Quad<u8>) -> u8
 impl Reduce for Normal {
     ghost rule = { λ it. normal_of it.packing };
 
+    #[inline(always)]
     fn reduced(&self, q: Quad<u32>) -> u32 {
         each(|p| byte(self.packing, p), q)
     }

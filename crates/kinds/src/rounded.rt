@@ -44,6 +44,7 @@ fn quarters(s: u32) -> u32
 impl Reduce for Rounded {
     ghost rule = { λ _. linear_of Nearest };
 
+    #[inline(always)]
     fn reduced(&self, q: Quad<u32>) -> u32 {
         quarters(sums(q.map(red_blue))) * 256 + quarters(sums(q.map(green_alpha)))
     }

@@ -9,6 +9,7 @@ pub trait Reduce {
     // The texel that takes the place of p00, p10, p01, p11.
     ghost rule: { Self → ℕ → ℕ → ℕ → ℕ → ℕ };
 
+    // Each is compiled into its callers: a call for each texel would be felt.
     fn reduced(&self, q: Quad<u32>) -> u32
         ensures { result ≡ rule self.now q.p00 q.p10 q.p01 q.p11 };
 
@@ -27,7 +28,9 @@ pub trait Reduce {
     }
 }
 
-// A row, each texel made of its pairs of the two rows above.
+// A row, each texel made of its pairs of the two rows above. Compiled into its callers, where the array that it fills is seen to overlap
+// nothing.
+#[inline(always)]
 pub fn row<R: Reduce>(rule: &R, a: &[u32], b: &[u32], o: &mut [u32])
     requires { (2 * length o.old ≤ length a.now) × (2 * length o.old ≤ length b.now) }
     ensures { o.new ≡ tab (length o.old) (pair_of (R.rule rule.now) a.now b.now) }

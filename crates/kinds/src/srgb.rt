@@ -45,6 +45,7 @@ impl Srgb {
 impl Reduce for Srgb {
     ghost rule = { λ it. srgb_of it.packing };
 
+    #[inline(always)]
     fn reduced(&self, q: Quad<u32>) -> u32 {
         rgba(
             self.byte(q.map(red)),

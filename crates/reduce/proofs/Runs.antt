@@ -3,32 +3,12 @@
 -- the run goes on past the end of a face. Assumes nothing.
 use mathlib.Core.Path.{◌≡◌, ap}
 use Prim.Native.Nat.{ℕ, ◌+◌, ◌-◌, ◌*◌, ◌/◌, ◌%◌, ◌≤◌, ◌<◌, min}
-use native.Mathlib.Nat.{add-zero, zero-mul, add-mul, mul_left_comm, mod-lt, div-add-mod', div-lt_iff_lt-mul}
+use native.Mathlib.Nat.{add-mul, mul_left_comm, mod-lt, div-add-mod', div-lt_iff_lt-mul}
 use native.Mathlib.Omega.{arith}
 use lib.Arith.{digits_div, digits_mod}
 use Rattle.rules.specs.Sizes.{half}
 use Rattle.reduce.specs.Levels.{first_row, second_row, Run}
 use Rattle.reduce.proofs.Levels.{row_in}
-
--- fewer rows are in the run too
-pub run-less : {w h h2 rows y n : ℕ} (m : ℕ) → 1 ≤ m → m ≤ n → Run w h h2 rows y n → Run w h h2 rows y m
-run-less m some le r =
-    record {
-      some = some;
-      inside = let i = r.inside in omega arith;
-      firsts = λ j lt. r.firsts j (omega arith);
-      seconds = λ j lt. r.seconds j (omega arith);
-    }
-
--- one row is a run
-pub run-one : (w h h2 rows y : ℕ) → y < rows → Run w h h2 rows y 1
-run-one w h h2 rows y lt =
-    record {
-      some = omega arith;
-      inside = omega arith;
-      firsts = λ j none. let z : j ≡ 0 = omega arith in rw (z, add-zero y, zero-mul w, add-zero (first_row w h h2 y));
-      seconds = λ j none. let z : j ≡ 0 = omega arith in rw (z, add-zero y, zero-mul w, add-zero (second_row w h h2 y));
-    }
 
 module _ (w h h2 faces y m : ℕ) (eh : h2 ≡ half h) (tall : 1 ≤ h) (some : 1 ≤ m) where
   -- rows of one face

@@ -64,11 +64,11 @@ over-copied at m from s source copy room e =
     let l = row_at m from source in
     let f = λ (k : ℕ). get_or (take (length source - from) (drop from source)) k 0 in
     let is : copy ≡ tab m f =
-        e
-        ∙ listed l
-        ∙ ap (λ (n : ℕ). tab n (λ k. get_or l k 0)) (row-long m from source room)
-        ∙ tab-ext m (λ k. get_or l k 0) f
-        (λ k lt. row-read m from source k lt ∙ sym (ap (λ (l : List ℕ). get_or l k 0) (part_to_end source from) ∙ get_or-drop from source k 0)) in
+    e
+    ∙ listed l
+    ∙ ap (λ (n : ℕ). tab n (λ k. get_or l k 0)) (row-long m from source room)
+    ∙ tab-ext m (λ k. get_or l k 0) f
+    (λ k lt. row-read m from source k lt ∙ sym (ap (λ (l : List ℕ). get_or l k 0) (part_to_end source from) ∙ get_or-drop from source k 0)) in
     ap (λ (l : List ℕ). put_mid at (at + m - at) s l) is ∙ over_put at m s f
 
 -- told of a part alone

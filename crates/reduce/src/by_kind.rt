@@ -3,7 +3,7 @@ ghost use Rattle.std.specs.Prelude.{◌≡◌, ◌+◌, ◌*◌, ◌≤◌, leng
 ghost use Rattle.rules.specs.Sizes.{half, start};
 ghost use Rattle.rules.specs.Levels.{next, filled};
 ghost use Rattle.rules.specs.Kinds.{code_of};
-ghost use Rattle.rules.specs.Reducing.{reduce_of};
+ghost use Rattle.rules.specs.Reducing.{srgb_of, reduce_of};
 ghost use Rattle.reduce.specs.Right.{Right};
 
 use crate::shape::Shape;
@@ -15,6 +15,15 @@ use kinds::rounded::Rounded;
 use kinds::srgb::Srgb;
 use rules::{Kind, Packing};
 
+// SRGB's tables stand in this function's frame, which no other kind enters.
+#[inline(never)]
+fn fill_srgb(packing: Packing, shape: Shape, left: usize, s: &mut [u32])
+    requires room { (1 ≤ left) × (start shape.faces shape.width shape.height left ≤ length s.old) }
+    ensures { s.new ≡ filled (srgb_of packing) shape.faces left shape.width shape.height s.old }
+{
+    chain::fill(&Srgb::new(packing), shape, left, s);
+}
+
 // The chain's levels by a kind and a packing mode.
 #[tactic(auto, unfolding(rules::specs::Reducing::reduce_of))]
 pub fn fill(kind: Kind, packing: Packing, shape: Shape, left: usize, s: &mut [u32])
@@ -22,12 +31,21 @@ pub fn fill(kind: Kind, packing: Packing, shape: Shape, left: usize, s: &mut [u3
     ensures { s.new ≡ filled (reduce_of (code_of kind) packing) shape.faces left shape.width shape.height s.old }
 {
     match (kind, packing) {
-        (Kind::Srgb, _) => chain::fill(&Srgb::new(packing), shape, left, s),
+        (Kind::Srgb, _) => fill_srgb(packing, shape, left, s),
         (Kind::Normal, _) => chain::fill(&Normal { packing }, shape, left, s),
         (Kind::MetallicRoughness, _) => chain::fill(&MetallicRoughness { packing }, shape, left, s),
         (Kind::Cubemap | Kind::Linear, Packing::Nearest) => chain::fill(&Rounded, shape, left, s),
         (Kind::Cubemap | Kind::Linear, Packing::Truncating) => chain::fill(&Linear { packing }, shape, left, s),
     }
+}
+
+// The same of a check.
+#[inline(never)]
+fn check_srgb(packing: Packing, shape: Shape, s: &[u32]) -> usize
+    requires room { shape.faces * shape.height * shape.width + shape.faces * half shape.height * half shape.width ≤ length s.now }
+    ensures { Right (shape.faces * shape.height * shape.width) s.now (shape.faces * half shape.height * half shape.width) (λ k. get_or (next (srgb_of packing) shape.faces shape.width shape.height (take (shape.faces * shape.height * shape.width) s.now)) k 0) result }
+{
+    check_level::check_next(&Srgb::new(packing), shape, s)
 }
 
 // How many texels of the next level are right behind a level, by a kind and a packing mode.
@@ -37,7 +55,7 @@ pub fn check_next(kind: Kind, packing: Packing, shape: Shape, s: &[u32]) -> usiz
     ensures { Right (shape.faces * shape.height * shape.width) s.now (shape.faces * half shape.height * half shape.width) (λ k. get_or (next (reduce_of (code_of kind) packing) shape.faces shape.width shape.height (take (shape.faces * shape.height * shape.width) s.now)) k 0) result }
 {
     match (kind, packing) {
-        (Kind::Srgb, _) => check_level::check_next(&Srgb::new(packing), shape, s),
+        (Kind::Srgb, _) => check_srgb(packing, shape, s),
         (Kind::Normal, _) => check_level::check_next(&Normal { packing }, shape, s),
         (Kind::MetallicRoughness, _) => check_level::check_next(&MetallicRoughness { packing }, shape, s),
         (Kind::Cubemap | Kind::Linear, Packing::Nearest) => check_level::check_next(&Rounded, shape, s),

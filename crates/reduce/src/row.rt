@@ -21,7 +21,8 @@ pub fn narrow<R: Reduce>(rule: &R, p: u32, q: u32) -> u32
 }
 
 // The row o, each texel from its pairs of a and b. Part after part in an array of its own, which overlaps no source, so that the
-// compiler sees that several texels can be made at once.
+// compiler sees that several texels can be made at once. Not compiled into the loop over the rows, whose numbers would take its registers.
+#[inline(never)]
 fn write_pairs<R: Reduce>(rule: &R, a: &[u32], b: &[u32], o: &mut [u32])
     requires { (2 * length o.old ≤ length a.now) × (2 * length o.old ≤ length b.now) }
     ensures { o.new ≡ tab (length o.old) (pair_of (R.rule rule.now) a.now b.now) }
