@@ -40,7 +40,10 @@ impl<'a> Cube<'a> {
         requires { AllOnCube s }
         ensures { result ≡ cube_four self.entry.layout.now.picture.width self.entry.layout.now.picture.height s levels }
     {
-        each(pairs(spots_in(s), levels), |(s, level)| self.lowered_place(s, level))
+        each(
+            pairs(spots_in(s), levels),
+            |(s, level)| self.lowered_place(s, level),
+        )
     }
 
     // Where a lane reads a level of the picture: no level is lowered.
@@ -57,7 +60,10 @@ impl<'a> Cube<'a> {
         requires { AllOnCube s × Below (suc (top self.layout.now.picture.width self.layout.now.picture.height)) levels }
         ensures { result ≡ cube_four self.entry.layout.now.picture.width self.entry.layout.now.picture.height s levels }
     {
-        each(pairs(spots_in(s), levels), |(s, level)| self.place(s, level))
+        each(
+            pairs(spots_in(s), levels),
+            |(s, level)| self.place(s, level),
+        )
     }
 }
 
