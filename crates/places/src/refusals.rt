@@ -1,10 +1,9 @@
 // The refusals of four lanes: one bad lane refuses all four.
-ghost use Rattle.std.specs.Prelude.{◌≡◌, IfOk};
+ghost use Rattle.std.specs.Prelude.{◌≡◌};
 ghost use Rattle.std.specs.Float.Ieee.Scale.{finite};
 ghost use Rattle.rules.specs.Lanes.{in_lanes};
 ghost use Rattle.rules.specs.Refusals.{coordinate_taken, coordinates_refusal, finite_refusal};
 ghost use Rattle.rules.specs.Answers.{told};
-ghost use Rattle.rules.proofs.RefusingLookups.{EachLane, Coordinates};
 
 use crate::coordinate::coordinate_taken;
 use choice::lanes::{all, each};
@@ -21,8 +20,7 @@ fn coordinates_taken(u: Lanes) -> bool
 // 5: a coordinate is not finite, or its magnitude is above 2,048.
 #[tactic(auto, unfolding(rules::specs::Refusals::coordinates_refusal, rules::specs::Refusals::refusal_of, rules::specs::Answers::answer))]
 pub fn check_coordinates(u: Lanes, v: Lanes) -> Result<(), Refusal>
-    ensures told { result ≡ told (coordinates_refusal u v) }
-    ensures taken { IfOk result (λ _. Coordinates u v) }
+    ensures { result ≡ told (coordinates_refusal u v) }
 {
     if coordinates_taken(u) & coordinates_taken(v) {
         Ok(())
@@ -42,8 +40,7 @@ fn all_finite(l: Lanes) -> bool
 // 5: a step or fractional level is not finite.
 #[tactic(auto, unfolding(rules::specs::Refusals::finite_refusal, rules::specs::Refusals::refusal_of, rules::specs::Answers::answer))]
 pub fn check_finite(l: Lanes) -> Result<(), Refusal>
-    ensures told { result ≡ told (finite_refusal l) }
-    ensures taken { IfOk result (λ _. EachLane finite l) }
+    ensures { result ≡ told (finite_refusal l) }
 {
     if all_finite(l) {
         Ok(())
