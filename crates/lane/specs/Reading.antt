@@ -1,6 +1,6 @@
 -- The places of four lanes, and what is read there. Definitions only.
 use Rattle.std.specs.Prelude.{List, ℕ, length, get_or, Float}
-use Rattle.rules.specs.Lanes.{Lanes, Wholes, Directions, lanes_of, rgb_lanes}
+use Rattle.rules.specs.Lanes.{Lanes, Wholes, Directions, rgb_lanes}
 use Rattle.rules.specs.declared.Four.{Four}
 use Rattle.rules.specs.declared.Mode.{Mode}
 use Rattle.rules.specs.declared.Plane.{Plane}

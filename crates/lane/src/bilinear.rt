@@ -17,7 +17,13 @@ use rules::{Corners, Directions, Four, Lanes, Weights, Wholes};
 
 // The places of four lanes, each on its own face, and the weights: the lanes side by side.
 #[tactic(auto, unfolding(crate::specs::Reading::squares_at))]
-pub fn squares(on: Level, faces: Wholes, by: Wrapping, u: Lanes, v: Lanes) -> Corners<Four<usize>, Lanes>
+pub fn squares(
+    on: Level,
+    faces: Wholes,
+    by: Wrapping,
+    u: Lanes,
+    v: Lanes,
+) -> Corners<Four<usize>, Lanes>
     requires { Below on.plane.faces faces × Coordinates u v }
     ensures { result ≡ squares_at on.plane faces by.s by.t u v }
 {

@@ -36,11 +36,12 @@ impl<'a> Cube<'a> {
 
     // Where four do, each at its own level.
     #[tactic(auto, unfolding(crate::specs::Cubes::cube_four))]
-    pub fn lowered_places(self, s: Spots, levels: Wholes) -> Four<usize>
+    pub fn lowered_places(self, s: Spots, wanted: Wholes) -> Four<usize>
         requires { AllOnCube s }
-        ensures { result ≡ cube_four self.entry.layout.now.picture.width self.entry.layout.now.picture.height s levels }
+        ensures { result ≡ cube_four self.entry.layout.now.picture.width self.entry.layout.now.picture.height s wanted }
     {
-        each(pairs(spots_in(s), levels), |(s, level)| self.lowered_place(s, level))
+        let by_lane = pairs(spots_in(s), wanted);
+        each(by_lane, |(s, level)| self.lowered_place(s, level))
     }
 
     // Where a lane reads a level of the picture: no level is lowered.
@@ -57,7 +58,8 @@ impl<'a> Cube<'a> {
         requires { AllOnCube s × Below (suc (top self.layout.now.picture.width self.layout.now.picture.height)) levels }
         ensures { result ≡ cube_four self.entry.layout.now.picture.width self.entry.layout.now.picture.height s levels }
     {
-        each(pairs(spots_in(s), levels), |(s, level)| self.place(s, level))
+        let by_lane = pairs(spots_in(s), levels);
+        each(by_lane, |(s, level)| self.place(s, level))
     }
 }
 

@@ -10,7 +10,10 @@ use rules::{Four, Spot, Spots};
 pub fn spots_in(s: Spots) -> Four<Spot>
     ensures { result ≡ spots_in s }
 {
-    each(pairs(s.face, pairs(s.u, s.v)), |(face, (u, v))| Spot { face, u, v })
+    each(
+        pairs(s.face, pairs(s.u, s.v)),
+        |(face, (u, v))| Spot { face, u, v },
+    )
 }
 
 // Side by side.

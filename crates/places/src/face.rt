@@ -5,7 +5,7 @@ ghost use Rattle.rules.specs.Faces.{direction_taken, sign_of, odd_of, on_face, s
 ghost use Rattle.places.specs.Spots.{sizes_taken, OnCube};
 
 use choice::pick;
-use rules::Spot;
+use rules::{Spot, Vector};
 
 // Where a direction meets the cube, and whether it is a direction that is taken: no Option, since four lanes' places are joined with no branch.
 #[derive(Clone, Copy)]
@@ -19,7 +19,7 @@ const LOW: f32 = 0.0000000000000000008673617379884035;
 
 const HIGH: f32 = 1152921504606846976.0;
 
-// |x|; of -0 it is -0, which compares as 0 does.
+// |x|; of -0 it is -0, which compares as 0 does: one test, where the library's abs has two.
 #[tactic(auto, unfolding(rules::specs::Floats::magnitude))]
 fn magnitude(x: f32) -> f32
     ensures { result ≡ magnitude_of x }
@@ -28,11 +28,11 @@ fn magnitude(x: f32) -> f32
 }
 
 // Whether each magnitude is at most 2^60, which neither a NaN's nor an infinity's is, and one is 2^-60 at least.
-fn sizes_taken(ax: f32, ay: f32, az: f32) -> bool
-    ensures { result ≡ sizes_taken ax ay az }
+fn sizes_taken(size: Vector<f32>) -> bool
+    ensures { result ≡ sizes_taken size.x size.y size.z }
 {
-    let low = (ax >= LOW) | ((ay >= LOW) | (az >= LOW));
-    (ax <= HIGH) & ((ay <= HIGH) & ((az <= HIGH) & low))
+    let low = (size.x >= LOW) | ((size.y >= LOW) | (size.z >= LOW));
+    (size.x <= HIGH) & ((size.y <= HIGH) & ((size.z <= HIGH) & low))
 }
 
 // 1 for a component >= 0, -0 included, and -1 for one below.
@@ -60,17 +60,17 @@ fn on_face(q: f32, major: f32) -> f32
 
 // X if |x| >= |y| and |x| >= |z|; else Y if |y| > |x| and |y| >= |z|; else Z.
 // (u, v) before scaling: (-z*sx, -y), (x, z*sy), (x*sz, -y).
-fn spot(x: f32, y: f32, z: f32, ax: f32, ay: f32, az: f32) -> Spot
-    requires { (ax ≡ magnitude_of x) × (ay ≡ magnitude_of y) × (az ≡ magnitude_of z) }
-    ensures { result ≡ spot_of x y z }
+fn spot(d: Vector<f32>, size: Vector<f32>) -> Spot
+    requires { (size.x ≡ magnitude_of d.x) × (size.y ≡ magnitude_of d.y) × (size.z ≡ magnitude_of d.z) }
+    ensures { result ≡ spot_of d.x d.y d.z }
 {
-    let on_x = (ax >= ay) & (ax >= az);
-    let on_y = (ay > ax) & (ay >= az);
-    let q = pick(on_x, -z * sign(x), pick(on_y, x, x * sign(z)));
-    let p = pick(on_x, -y, pick(on_y, z * sign(y), -y));
-    let major = pick(on_x, ax, pick(on_y, ay, az));
+    let on_x = (size.x >= size.y) & (size.x >= size.z);
+    let on_y = (size.y > size.x) & (size.y >= size.z);
+    let q = pick(on_x, -d.z * sign(d.x), pick(on_y, d.x, d.x * sign(d.z)));
+    let p = pick(on_x, -d.y, pick(on_y, d.z * sign(d.y), -d.y));
+    let major = pick(on_x, size.x, pick(on_y, size.y, size.z));
     Spot {
-        face: pick(on_x, odd(x), pick(on_y, 2 + odd(y), 4 + odd(z))),
+        face: pick(on_x, odd(d.x), pick(on_y, 2 + odd(d.y), 4 + odd(d.z))),
         u: on_face(q, major),
         v: on_face(p, major),
     }
@@ -80,11 +80,13 @@ fn spot(x: f32, y: f32, z: f32, ax: f32, ay: f32, az: f32) -> Spot
 pub fn meet(x: f32, y: f32, z: f32) -> Meeting
     ensures { (result.spot ≡ spot_of x y z) × (result.taken ≡ direction_taken x y z) × (T (direction_taken x y z) → OnCube (spot_of x y z)) }
 {
-    let ax = magnitude(x);
-    let ay = magnitude(y);
-    let az = magnitude(z);
+    let size = Vector {
+        x: magnitude(x),
+        y: magnitude(y),
+        z: magnitude(z),
+    };
     Meeting {
-        spot: spot(x, y, z, ax, ay, az),
-        taken: sizes_taken(ax, ay, az),
+        spot: spot(Vector { x, y, z }, size),
+        taken: sizes_taken(size),
     }
 }

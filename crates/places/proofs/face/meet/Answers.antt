@@ -7,7 +7,7 @@ use Rattle.places.proofs.Spots.{on-cube}
 use Rattle.places.proofs.face.meet.Goals as goal
 
 pub spot-requires : goal.spot-requires
-spot-requires c = (c.magnitude-ax.ensures, c.magnitude-ay.ensures, c.magnitude-az.ensures)
+spot-requires c = (c.magnitude.ensures, c.magnitude-2.ensures, c.magnitude-3.ensures)
 
 pub returns : goal.returns
 returns c =
@@ -15,6 +15,6 @@ returns c =
     let y = c.args.y in
     let z = c.args.z in (
       c.spot.ensures,
-      rw (c.sizes_taken.ensures, c.magnitude-az.ensures, c.magnitude-ay.ensures, c.magnitude-ax.ensures) (direction-words x y z),
+      rw (c.sizes_taken.ensures, c.magnitude-3.ensures, c.magnitude-2.ensures, c.magnitude.ensures) (direction-words x y z),
       on-cube x y z (subst T (sym c.well_formed.0.1) tt) (subst T (sym c.well_formed.1.1.0.1) tt),
     )

@@ -25,4 +25,4 @@ returns c =
       c.requires.1,
       c.requires.2,
     )
-    (spot-chosen c.args.x c.args.y c.args.z)
+    (spot-chosen c.args.d.x c.args.d.y c.args.d.z)
