@@ -35,7 +35,12 @@ pub fn fill(kind: Kind, packing: Packing, shape: Shape, left: usize, s: &mut [u3
         (Kind::Normal, _) => chain::fill(&Normal { packing }, shape, left, s),
         (Kind::MetallicRoughness, _) => chain::fill(&MetallicRoughness { packing }, shape, left, s),
         (Kind::Cubemap | Kind::Linear, Packing::Nearest) => chain::fill(&Rounded, shape, left, s),
-        (Kind::Cubemap | Kind::Linear, Packing::Truncating) => chain::fill(&Linear { packing }, shape, left, s),
+        (Kind::Cubemap | Kind::Linear, Packing::Truncating) => chain::fill(
+            &Linear { packing },
+            shape,
+            left,
+            s,
+        ),
     }
 }
 
@@ -57,8 +62,18 @@ pub fn check_next(kind: Kind, packing: Packing, shape: Shape, s: &[u32]) -> usiz
     match (kind, packing) {
         (Kind::Srgb, _) => check_srgb(packing, shape, s),
         (Kind::Normal, _) => check_level::check_next(&Normal { packing }, shape, s),
-        (Kind::MetallicRoughness, _) => check_level::check_next(&MetallicRoughness { packing }, shape, s),
-        (Kind::Cubemap | Kind::Linear, Packing::Nearest) => check_level::check_next(&Rounded, shape, s),
-        (Kind::Cubemap | Kind::Linear, Packing::Truncating) => check_level::check_next(&Linear { packing }, shape, s),
+        (Kind::MetallicRoughness, _) => check_level::check_next(
+            &MetallicRoughness { packing },
+            shape,
+            s,
+        ),
+        (Kind::Cubemap | Kind::Linear, Packing::Nearest) => check_level::check_next(
+            &Rounded, shape, s,
+        ),
+        (Kind::Cubemap | Kind::Linear, Packing::Truncating) => check_level::check_next(
+            &Linear { packing },
+            shape,
+            s,
+        ),
     }
 }
