@@ -7,13 +7,12 @@ pub use levels::check::{check_chain, check_level};
 pub use levels::cross::cut_cross;
 pub use levels::cut::cut;
 pub use levels::sizes::level_sizes;
-pub use levels::view::{level_view, level_view_refusal};
+pub use levels::view::{Face, face_of, level_view, level_view_refusal};
 pub use lookups::{
     compute_mip_level, cubemap_uv_from_normal, sample_bilinear_alpha, sample_bilinear_rgb,
     sample_cubemap_rgb, sample_cubemap_trilinear_rgb, sample4_alpha, sample4_rgb,
 };
 pub use rules::{
-    Alpha, Checked, Colour, Directions, Facing, Filled, Lanes, Level, Pair, Sampler, Sizes, Spots,
-    Verdict, Wholes,
+    Directions, Four, Kind, Lanes, LevelSizes, Mode, Packing, Pair, Refusal, Sampler, Spots, Wholes,
 };
 pub use texel::curve::srgb_to_linear;
