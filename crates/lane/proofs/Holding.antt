@@ -13,8 +13,9 @@ use Rattle.rules.specs.Sizes.{top}
 use Rattle.rules.specs.Places.{plane_of, nearest_place}
 use Rattle.rules.specs.Cubemap.{cube_place}
 use Rattle.rules.proofs.Sides.{side-pos, side-le}
-use Rattle.rules.proofs.Bounds.{faces-some, faces-most, level-end, taken-count}
-use Rattle.rules.proofs.Refusing.{Taken, Chained}
+use Rattle.rules.proofs.Bounds.{level-end, count_most}
+use Rattle.reduce.specs.Levels.{Sides}
+use Rattle.rules.proofs.Refusing.{Chained}
 use Rattle.rules.proofs.Inside.{nearest-reads, corners-read}
 use Rattle.places.proofs.CubePlaces.{spot-reads}
 use Rattle.places.specs.Sized.{Sized, Below}
@@ -22,18 +23,18 @@ use Rattle.places.specs.Stands.{axes_of}
 use Rattle.lane.specs.Cubes.{AllOnCube, cube_four}
 use Rattle.lane.specs.Reading.{nearest_four, places_of, squares_at, Inside, AllWithin}
 
--- a level of a picture that is taken
-pub plane-sized : {kind w h m : ℕ} → Taken kind w h → m ≤ top w h → Sized (plane_of kind w h m)
+-- a level of a picture
+pub plane-sized : (kind : ℕ) {w h m : ℕ} → Sides (faces_of kind) w h → m ≤ top w h → Sized (plane_of kind w h m)
 unfolding plane_of
-plane-sized {kind} {w} {h} {m} t le =
+plane-sized kind {w} {h} {m} s le =
     record {
-      most-start = omega (arith, level-end (faces_of kind) w h m le, taken-count t);
-      some-faces = faces-some kind;
-      most-faces = faces-most kind;
+      most-start = omega (arith, level-end (faces_of kind) w h m le, count_most (faces_of kind) w h s.most-f s.some-w s.some-h s.most-w s.most-h);
+      some-faces = s.some-f;
+      most-faces = s.most-f;
       some-w = side-pos m w;
-      most-w = omega (arith, side-le m w t.some-w, t.most-w);
+      most-w = omega (arith, side-le m w s.some-w, s.most-w);
       some-h = side-pos m h;
-      most-h = omega (arith, side-le m h t.some-h, t.most-h);
+      most-h = omega (arith, side-le m h s.some-h, s.most-h);
     }
 
 -- a cubemap's level has six faces

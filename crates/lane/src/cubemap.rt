@@ -29,7 +29,7 @@ impl<'a> Cube<'a> {
     // Where a lane reads a level, which is lowered to the top level.
     fn lowered_place(self, s: Spot, level: u32) -> usize
         requires { OnCube s }
-        ensures { result ≡ lowered_place self.layout.now.picture.width self.layout.now.picture.height s level }
+        ensures { result ≡ lowered_place self.entry.layout.now.picture.width self.entry.layout.now.picture.height s level }
     {
         cube_place(lowered(self.layout, level), s)
     }
@@ -38,7 +38,7 @@ impl<'a> Cube<'a> {
     #[tactic(auto, unfolding(crate::specs::Cubes::cube_four))]
     pub fn lowered_places(self, s: Spots, levels: Wholes) -> Four<usize>
         requires { AllOnCube s }
-        ensures { result ≡ cube_four self.layout.now.picture.width self.layout.now.picture.height s levels }
+        ensures { result ≡ cube_four self.entry.layout.now.picture.width self.entry.layout.now.picture.height s levels }
     {
         each(pairs(spots_in(s), levels), |(s, level)| self.lowered_place(s, level))
     }
@@ -46,7 +46,7 @@ impl<'a> Cube<'a> {
     // Where a lane reads a level of the picture: no level is lowered.
     fn place(self, s: Spot, level: u32) -> usize
         requires { OnCube s × (level ≤ top self.layout.now.picture.width self.layout.now.picture.height) }
-        ensures { result ≡ lowered_place self.layout.now.picture.width self.layout.now.picture.height s level }
+        ensures { result ≡ lowered_place self.entry.layout.now.picture.width self.entry.layout.now.picture.height s level }
     {
         cube_place(level_at(self.layout, level), s)
     }
@@ -55,7 +55,7 @@ impl<'a> Cube<'a> {
     #[tactic(auto, unfolding(crate::specs::Cubes::cube_four))]
     pub fn places(self, s: Spots, levels: Wholes) -> Four<usize>
         requires { AllOnCube s × Below (suc (top self.layout.now.picture.width self.layout.now.picture.height)) levels }
-        ensures { result ≡ cube_four self.layout.now.picture.width self.layout.now.picture.height s levels }
+        ensures { result ≡ cube_four self.entry.layout.now.picture.width self.entry.layout.now.picture.height s levels }
     {
         each(pairs(spots_in(s), levels), |(s, level)| self.place(s, level))
     }

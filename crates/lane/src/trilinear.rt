@@ -29,7 +29,7 @@ pub fn two_levels(levels: Lanes, top: usize) -> Pairing<Wholes, Lanes>
 // Where four lanes read, at the lower levels and at the upper ones.
 pub fn level_places(cube: Cube, s: Spots, m: Pairing<Wholes, Lanes>) -> Pairing<Four<usize>, Lanes>
     requires { AllOnCube s × Below (suc (top cube.layout.now.picture.width cube.layout.now.picture.height)) m.low × Below (suc (top cube.layout.now.picture.width cube.layout.now.picture.height)) m.high }
-    ensures { result ≡ record { low = cube_four cube.layout.now.picture.width cube.layout.now.picture.height s m.low; high = cube_four cube.layout.now.picture.width cube.layout.now.picture.height s m.high; part = m.part } }
+    ensures { result ≡ record { low = cube_four cube.entry.layout.now.picture.width cube.entry.layout.now.picture.height s m.low; high = cube_four cube.entry.layout.now.picture.width cube.entry.layout.now.picture.height s m.high; part = m.part } }
 {
     Pairing {
         low: cube.places(s, m.low),

@@ -9,7 +9,8 @@ use Rattle.rules.specs.Lanes.{Lanes}
 use Rattle.rules.specs.Lanes.{Wholes}
 use Rattle.rules.specs.Lanes.{Directions}
 use Rattle.rules.specs.declared.Sampler.{Sampler}
-use Rattle.rules.specs.declared.Spots.{Spots}
+use Rattle.rules.specs.declared.Plane.{Plane}
+use Rattle.rules.specs.Lanes.{Spots}
 use Rattle.rules.specs.Kinds.{cubemap, faces_of}
 use Rattle.rules.specs.Sizes.{top}
 use Rattle.rules.specs.Places.{plane_of}
@@ -17,21 +18,22 @@ use Rattle.rules.specs.Refusals.{face_taken, sample4_refusal, bilinear_rgb_refus
 use Rattle.rules.specs.Answers.{spots_at, sample4_rgb_answer, sample4_alpha_answer, bilinear_rgb_answer, bilinear_alpha_answer, cubemap_answer, trilinear_answer}
 use Rattle.rules.proofs.Refusing.{Taken, Chained, answer-given}
 use Rattle.rules.proofs.RefusingLookups.{EachWhole, Cubed, face-below, sample4-facts}
+use Rattle.rules.proofs.Bounds.{faces-some}
 use Rattle.rules.proofs.Inside.{mip-below}
-use Rattle.places.specs.Sized.{Sized, Below}
-use Rattle.lane.specs.declared.reading.Four.{Four}
-use Rattle.lane.specs.declared.trilinear.TwoLevels.{TwoLevels}
-use Rattle.lane.specs.declared.trilinear.Eight.{Eight}
+use Rattle.places.specs.Sized.{Below}
+use Rattle.places.specs.declared.wrap.Wrapping.{Wrapping}
+use Rattle.places.specs.Samplers.{wrapping_of}
+use Rattle.rules.specs.declared.Four.{Four}
+use Rattle.rules.specs.declared.Pairing.{Pairing}
 use Rattle.lane.specs.Cubes.{cube_four, two_levels, lerp_colours}
 use Rattle.lane.specs.Reading.{Inside, AllWithin, squares_at, read_rgb, read_alpha, blended_rgb, blended_alpha}
-use Rattle.lane.proofs.Holding.{plane-sized, nearest-inside, squares-within}
+use Rattle.lane.proofs.Holding.{nearest-inside, squares-within}
 use Rattle.lane.proofs.Together.{nearest-colours, nearest-alphas, bilinear-colours, bilinear-alphas, cubemap-colours, trilinear-colours}
 use Rattle.lookups.specs.Reads.{sample4_four}
 
--- ---- by coordinates: q is level m of the picture, with its modes
+-- ---- by coordinates
 pub faces-below : (kind : ℕ) (f : Wholes) → EachWhole (face_taken kind) f → Below (faces_of kind) f
-faces-below kind f e =
-    record { in-a = face-below kind _ e.a; in_b = face-below kind _ e.b; in_c = face-below kind _ e.c; in-d = face-below kind _ e.d }
+faces-below kind f e = record { a = face-below kind _ e.a; b = face-below kind _ e.b; c = face-below kind _ e.c; d = face-below kind _ e.d }
 
 module _ (kind w h : ℕ) (l : List ℕ) (sampler : Sampler) (u v : Lanes) where
   pub sample4-rgb-read : (steps : Lanes) {f : Four ℕ} → sample4_refusal kind w h (length l) sampler u v steps ≡ 0 → f ≡ sample4_four kind w h sampler u v steps → sample4_rgb_answer kind w h l sampler u v steps ≡ Ok (read_rgb l f)
@@ -46,14 +48,26 @@ module _ (kind w h : ℕ) (l : List ℕ) (sampler : Sampler) (u v : Lanes) where
   unfolding sample4_four
   sample4-inside steps z e = rw e (nearest-inside l _ (sample4-facts kind w h (length l) sampler u v steps z).chained (mip-below w h steps) _ _ u v)
 
-module _ (kind w h : ℕ) (l : List ℕ) (sampler : Sampler) (u v : Lanes) where
-  pub bilinear-rgb-read : (m : ℕ) (f : Wholes) → bilinear_rgb_refusal kind w h (length l) sampler u v m f ≡ 0 → bilinear_rgb_answer kind w h l sampler u v m f ≡ Ok (blended_rgb l (squares_at (plane_of kind w h m) f (mode_of sampler.wrap_s) (mode_of sampler.wrap_t) u v))
-  unfolding bilinear_rgb_answer
-  bilinear-rgb-read m f z = (answer-given _ _ _ z ∙ ap Ok (bilinear-colours l _ _ _ u v f))
+-- a picture's first face is one of its faces
+pub first-below : (kind : ℕ) → Below (faces_of kind) (record { a = 0; b = 0; c = 0; d = 0 })
+first-below kind = let some = faces-some kind in record { a = some; b = some; c = some; d = some }
 
-  pub bilinear-alpha-read : (m : ℕ) → bilinear_alpha_refusal kind w h (length l) sampler u v m ≡ 0 → bilinear_alpha_answer kind w h l sampler u v m ≡ Ok (blended_alpha l (squares_at (plane_of kind w h m) (record { a = 0; b = 0; c = 0; d = 0 }) (mode_of sampler.wrap_s) (mode_of sampler.wrap_t) u v))
-  unfolding bilinear_alpha_answer
-  bilinear-alpha-read m z = (answer-given _ _ _ z ∙ ap Ok (bilinear-alphas l _ _ _ u v))
+-- p is level m, by its modes
+module _ (kind w h : ℕ) (l : List ℕ) (sampler : Sampler) (u v : Lanes) (m : ℕ) {p : Plane} {by : Wrapping} (e : p ≡ plane_of kind w h m) (g : by ≡ wrapping_of sampler) where
+  pub bilinear-rgb-read : (f : Wholes) → bilinear_rgb_refusal kind w h (length l) sampler u v m f ≡ 0 → bilinear_rgb_answer kind w h l sampler u v m f ≡ Ok (blended_rgb l (squares_at p f by.s by.t u v))
+  unfolding bilinear_rgb_answer wrapping_of
+  bilinear-rgb-read f z = rw (e, g) (answer-given _ _ _ z ∙ ap Ok (bilinear-colours l _ _ _ u v f))
+
+  pub bilinear-alpha-read : bilinear_alpha_refusal kind w h (length l) sampler u v m ≡ 0 → bilinear_alpha_answer kind w h l sampler u v m ≡ Ok (blended_alpha l (squares_at p (record { a = 0; b = 0; c = 0; d = 0 }) by.s by.t u v))
+  unfolding bilinear_alpha_answer wrapping_of
+  bilinear-alpha-read z = rw (e, g) (answer-given _ _ _ z ∙ ap Ok (bilinear-alphas l _ _ _ u v))
+
+  pub level-faces : (f : Wholes) → Below (faces_of kind) f → Below p.faces f
+  unfolding plane_of
+  level-faces f b = rw e b
+
+  pub level-squares : (f : Wholes) → Below (faces_of kind) f → Chained kind w h (length l) → m ≤ top w h → AllWithin l (squares_at p f by.s by.t u v)
+  level-squares f b c below = rw e (squares-within l m c below _ _ u v f b)
 
 -- ---- by directions: s is where they meet the cube
 pub cube-chained : {kind w h n : ℕ} {d : Directions} → Cubed kind w h n d → Chained cubemap w h n
@@ -69,7 +83,7 @@ module _ (kind w h : ℕ) (l : List ℕ) (d : Directions) {s : Spots} where
   trilinear-read levels z e = rw e (answer-given _ _ _ z ∙ ap Ok (trilinear-colours l w h d levels))
 
   -- the same from what a call works out in turn: the top level, the two levels, the places, the colours, and the blend
-  pub trilinear-made : (levels : Lanes) → trilinear_refusal kind w h (length l) d levels ≡ 0 → s ≡ spots_at d → {n : ℕ} {m : TwoLevels} {at : Eight} {low high blend : Directions}
-      → n ≡ top w h → m ≡ two_levels levels n → at ≡ record { low = cube_four w h s m.low; high = cube_four w h s m.high } → low ≡ read_rgb l at.low → high ≡ read_rgb l at.high → blend ≡ lerp_colours low high m.part
+  pub trilinear-made : (levels : Lanes) → trilinear_refusal kind w h (length l) d levels ≡ 0 → s ≡ spots_at d → {n : ℕ} {m : Pairing Wholes Lanes} {at : Pairing Wholes Lanes} {low high blend : Directions}
+      → n ≡ top w h → m ≡ two_levels levels n → at ≡ record { low = cube_four w h s m.low; high = cube_four w h s m.high; part = m.part } → low ≡ read_rgb l at.low → high ≡ read_rgb l at.high → blend ≡ lerp_colours low high m.part
       → Ok blend ≡ trilinear_answer kind w h l d levels
   trilinear-made levels z e i j k p q r = rw (r, p, q, k, j, i) (sym (trilinear-read levels z e))

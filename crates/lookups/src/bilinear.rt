@@ -29,7 +29,13 @@ fn check_faces(picture: Picture, faces: Wholes) -> Result<(), Refusal>
 
 // What stands behind the 8 of a bilinear lookup, and the modes of its sampler: 4, 6, 5.
 #[tactic(auto, using(rules::proofs::Answering::answer_or, rules::proofs::Answering::answer_as), unfolding(rules::specs::Refusals::sampler_refusal))]
-fn check_blend(picture: Picture, sampler: Sampler, u: Lanes, v: Lanes, level: u32) -> Result<Wrapping, Refusal>
+fn check_blend(
+    picture: Picture,
+    sampler: Sampler,
+    u: Lanes,
+    v: Lanes,
+    level: u32,
+) -> Result<Wrapping, Refusal>
     ensures { result ≡ answer (sampler_refusal sampler or_else level_refusal picture.width picture.height level or_else coordinates_refusal u v) refused (Ok (wrapping_of sampler)) }
 {
     let by = Wrapping::try_from(sampler)?;

@@ -1,4 +1,4 @@
-// The texture unit: every public call, and the records and answers of the calls. No call has a `requires`; what each answers and
+// The texture unit: every public call, and the records, answers and refusals of the calls. No call has a `requires`; what each answers and
 // what it leaves in the buffers that it was lent is said in crates/rules/specs/Answers.antt.
 #![tactic(auto)]
 

@@ -5,20 +5,20 @@ use Rattle.lane.proofs.bilinear.squares.Goals as goal
 use Rattle.lane.proofs.bilinear.squares.Goals.{After-four_axes-y}
 
 module _ (c : goal.After-four_axes-y) where
-  across : Below c.args.p.width c.four_axes-x.result.first × Below c.args.p.width c.four_axes-x.result.second
-  across = rw c.four_axes-x.ensures (axes-below _ _ _ c.requires.0.some-w)
+  across : Below c.args.on.plane.width c.four_axes-x.result.first × Below c.args.on.plane.width c.four_axes-x.result.second
+  across = rw c.four_axes-x.ensures (axes-below _ _ _ c.args.on.sized.some-w)
 
-  down : Below c.args.p.height c.four_axes-y.result.first × Below c.args.p.height c.four_axes-y.result.second
-  down = rw c.four_axes-y.ensures (axes-below _ _ _ c.requires.0.some-h)
+  down : Below c.args.on.plane.height c.four_axes-y.result.first × Below c.args.on.plane.height c.four_axes-y.result.second
+  down = rw c.four_axes-y.ensures (axes-below _ _ _ c.args.on.sized.some-h)
 
 pub places-requires : goal.places-requires
-places-requires c = let p = c.requires in let k = (goal.at.places-requires c).After-four_axes-y in (p.0, p.1, (across k).0, (down k).0)
+places-requires c = let k = (goal.at.places-requires c).After-four_axes-y in (c.requires.0, (across k).0, (down k).0)
 
 pub places-requires-2 : goal.places-requires-2
-places-requires-2 c = let p = c.requires in let k = (goal.at.places-requires-2 c).After-four_axes-y in (p.0, p.1, (across k).1, (down k).0)
+places-requires-2 c = let k = (goal.at.places-requires-2 c).After-four_axes-y in (c.requires.0, (across k).1, (down k).0)
 
 pub places-requires-3 : goal.places-requires-3
-places-requires-3 c = let p = c.requires in let k = (goal.at.places-requires-3 c).After-four_axes-y in (p.0, p.1, (across k).0, (down k).1)
+places-requires-3 c = let k = (goal.at.places-requires-3 c).After-four_axes-y in (c.requires.0, (across k).0, (down k).1)
 
 pub places-requires-4 : goal.places-requires-4
-places-requires-4 c = let p = c.requires in let k = (goal.at.places-requires-4 c).After-four_axes-y in (p.0, p.1, (across k).1, (down k).1)
+places-requires-4 c = let k = (goal.at.places-requires-4 c).After-four_axes-y in (c.requires.0, (across k).1, (down k).1)

@@ -7,7 +7,7 @@ use Rattle.lane.proofs.cubemap.cube_place.Goals as goal
 pub place-requires : goal.place-requires
 place-requires c =
     let p = c.requires in
-    (p.0, record { face = subst (λ (k : ℕ). c.args.s.face < k) (sym p.1) p.2.side; across = c.cube_texel-x.ensures.1; down = c.cube_texel-y.ensures.1 })
+    record { face = subst (λ (k : ℕ). c.args.s.face < k) (sym p.0) p.1.side; across = c.cube_texel-x.ensures.1; down = c.cube_texel-y.ensures.1 }
 
 pub returns : goal.returns
 unfolding cube_place

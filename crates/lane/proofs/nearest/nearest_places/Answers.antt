@@ -7,8 +7,7 @@ use Rattle.lane.proofs.nearest.nearest_places.Goals as goal
 
 pub places-requires : goal.places-requires
 places-requires c =
-    let z = c.requires.0 in (
-      z,
+    let z = c.args.on.sized in (
       record { a = z.some-faces; b = z.some-faces; c = z.some-faces; d = z.some-faces },
       rw c.nearest_four-x.ensures (nearests-below _ _ _ z.some-w),
       rw c.nearest_four-y.ensures (nearests-below _ _ _ z.some-h),
