@@ -38,7 +38,5 @@ pub fn swathecold_replace_texel(
     ensures texels { texels.new ≡ replace_leaves kind width height texels.old ranges.old x y texel }
     ensures ranges { ranges.new ≡ replace_ranges_leaves kind width height texels.old ranges.old x y texel }
 {
-    number(ranges::replace_texel(
-        kind, width, height, texels, ranges, x, y, texel,
-    ))
+    number(ranges::replace_texel(kind, width, height, texels, ranges, x, y, texel))
 }

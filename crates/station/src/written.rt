@@ -59,7 +59,12 @@ impl Words<[u64; 4]> for LevelSizes {
     ghost words_of = { sizes_words };
 
     fn words(self) -> [u64; 4] {
-        [self.start as u64, self.width as u64, self.height as u64, self.total as u64]
+        [
+            self.start as u64,
+            self.width as u64,
+            self.height as u64,
+            self.total as u64,
+        ]
     }
 }
 
