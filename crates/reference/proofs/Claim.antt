@@ -17,7 +17,7 @@ use Rattle.rules.specs.Packing.{packing_code, pack_of}
 use Rattle.rules.specs.Footprint.{footprint_of, four_of, mip_level_of}
 use Rattle.rules.specs.Places.{plane_of, place_of, rgb_of, nearest_of, nearest_place, nearest_rgb}
 use Rattle.rules.specs.Faces.{direction_taken, sign_of, odd_of, spot_at, spot_of}
-use Rattle.rules.specs.Refusals.{◌or_else◌, kind_refusal, sides_refusal, buffer_refusal, sampler_refusal, coordinate_taken, coordinates_refusal, finite_refusal, level_refusal, directions_refusal, no_cubemap_refusal, mode_refusal, picture_refusal, chain_refusal, mipmaps_refusal, level_sizes_refusal, mip_level_refusal, sample4_refusal}
+use Rattle.rules.specs.Refusals.{refusal_of, ◌or_else◌, kind_refusal, sides_refusal, buffer_refusal, wrap_refusal, sampler_refusal, coordinate_taken, coordinates_refusal, finite_refusal, level_refusal, directions_refusal, no_cubemap_refusal, mode_refusal, picture_refusal, chain_refusal, mipmaps_refusal, level_sizes_refusal, mip_level_refusal, sample4_refusal}
 use Rattle.rules.specs.Answers.{answer, level_sizes_answer, chain_leaves, mip_level_answer, spots_of, facing_answer, sample4_rgb_answer}
 use Rattle.reference.specs.Items.{Holds, table}
 
@@ -27,8 +27,8 @@ infixr 2 ◌also◌
 a also b = (a, b)
 
 pub reference : Holds table
-unfolding level_sizes_answer chain_leaves mip_level_answer spots_of facing_answer sample4_rgb_answer answer
-    ◌or_else◌ kind_refusal sides_refusal buffer_refusal sampler_refusal coordinate_taken coordinates_refusal finite_refusal level_refusal directions_refusal no_cubemap_refusal
+unfolding refusal_of level_sizes_answer chain_leaves mip_level_answer spots_of facing_answer sample4_rgb_answer answer
+    ◌or_else◌ kind_refusal sides_refusal buffer_refusal wrap_refusal sampler_refusal coordinate_taken coordinates_refusal finite_refusal level_refusal directions_refusal no_cubemap_refusal
     mode_refusal picture_refusal chain_refusal mipmaps_refusal level_sizes_refusal mip_level_refusal sample4_refusal
     side_at halvings log2 top size_at start count faces_of rgba
     tab grid texel quad next chain filled filled_of

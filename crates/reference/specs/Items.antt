@@ -1,15 +1,15 @@
 -- Document 01's reference list as one table: a row for each thing that it says, with the item's number, what is asked of the rules
 -- and what 01 answers; and what document 02 says of an item in nearest mode. `Holds table` is the one claim about it. Definitions only.
-use Rattle.std.specs.Prelude.{Ok}
-use Rattle.rules.specs.Answers.{refused}
-use Rattle.std.specs.Prelude.{◌≡◌, List, [], ◌∷◌, map, ℕ, pos, negsuc, Float}
+use Rattle.std.specs.Prelude.{◌≡◌, List, [], ◌∷◌, map, Result, Ok, ℕ, pos, negsuc, Float}
 use Rattle.std.specs.Float.{binary32}
 use Rattle.std.specs.Float.Ieee.{of_bits}
-use Rattle.rules.specs.Lanes.{Lanes}
+use Rattle.rules.specs.declared.LevelSizes.{LevelSizes}
+use Rattle.rules.specs.declared.Refusal.{Refusal}
+use Rattle.rules.specs.Lanes.{Lanes, Directions, Spots}
 use Rattle.rules.specs.Kinds.{srgb, normal, metallic_roughness, cubemap, linear}
 use Rattle.rules.specs.Floats.{zero32, half32, one32, minus1}
 use Rattle.rules.specs.Wrapping.{mode_of, wrap_of}
-use Rattle.rules.specs.Answers.{level_sizes_answer, chain_leaves, mip_level_answer, facing_answer, sample4_rgb_answer}
+use Rattle.rules.specs.Answers.{refused, level_sizes_answer, chain_leaves, mip_level_answer, facing_answer, sample4_rgb_answer}
 
 -- a row: the item's number, what is asked, what is answered
 pub record Row : Type 1 where
@@ -29,8 +29,12 @@ Holds (r ∷ rs) = (r.asked ≡ r.answered) × Holds rs
 -- ---- how the rows ask
 
 -- sizes do not look at the kind, but for the cubemap's six faces
-abbrev sizes : ℕ → ℕ → ℕ → Sizes
+abbrev sizes : ℕ → ℕ → ℕ → Result LevelSizes Refusal
 sizes w h m = level_sizes_answer linear w h m
+
+-- where a level starts, its sides, and the chain's texel count
+abbrev level : ℕ → ℕ → ℕ → ℕ → Result LevelSizes Refusal
+level start w h total = Ok record { start = start; width = w; height = h; total = total }
 
 -- the packing modes: 01's items are those of truncating
 abbrev truncating : ℕ
@@ -71,42 +75,42 @@ abbrev minus0 : Float
 minus0 = bits 0x80000000
 
 -- one direction in all four lanes
-abbrev facing : Float → Float → Float → Facing
+abbrev facing : Float → Float → Float → Result Spots Refusal
 facing x y z = facing_answer (record { x = every x; y = every y; z = every z })
 
-abbrev on : ℕ → Float → Float → Facing
-on face u v = Ok (record { u = every u; v = every v; faces = record { a = face; b = face; c = face; d = face } })
+abbrev on : ℕ → Float → Float → Result Spots Refusal
+on face u v = Ok record { face = record { a = face; b = face; c = face; d = face }; u = every u; v = every v }
 
 -- the green picture of one texel, looked up at (u, v)
-abbrev lookup : Float → Float → Colour
+abbrev lookup : Float → Float → Result Directions Refusal
 lookup u v = sample4_rgb_answer linear 1 1 (0x00FF00FF ∷ []) (record { wrap_s = 10497; wrap_t = 10497 }) (every u) (every v) (every zero32)
 
-abbrev green : Colour
-green = Ok (record { x = every zero32; y = every one32; z = every zero32 })
+abbrev green : Result Directions Refusal
+green = Ok record { x = every zero32; y = every one32; z = every zero32 }
 
 -- ---- the table
 
 abbrev pub table : List Row
 table =
     -- 5 by 3: levels 5x3, 2x1, 1x1 at 0, 15, 17; 18 texels. 1 by 1: one level
-    row 1 (sizes 5 3 0) (Ok 0 5 3 18)
-    ∷ row 1 (sizes 5 3 1) (Ok 15 2 1 18)
-    ∷ row 1 (sizes 5 3 2) (Ok 17 1 1 18)
+    row 1 (sizes 5 3 0) (level 0 5 3 18)
+    ∷ row 1 (sizes 5 3 1) (level 15 2 1 18)
+    ∷ row 1 (sizes 5 3 2) (level 17 1 1 18)
     ∷ row 1 (sizes 5 3 3) (refused 6)
-    ∷ row 1 (sizes 1 1 0) (Ok 0 1 1 1)
+    ∷ row 1 (sizes 1 1 0) (level 0 1 1 1)
     ∷ row 1 (sizes 1 1 1) (refused 6)
     -- 3 by 1: 3x1, 1x1; the third column takes no part
-    ∷ row 2 (sizes 3 1 0) (Ok 0 3 1 4)
-    ∷ row 2 (sizes 3 1 1) (Ok 3 1 1 4)
+    ∷ row 2 (sizes 3 1 0) (level 0 3 1 4)
+    ∷ row 2 (sizes 3 1 1) (level 3 1 1 4)
     ∷ row 2 (sizes 3 1 2) (refused 6)
     ∷ row 2 {A = ℕ → List ℕ} (λ third. chain_leaves linear 3 1 truncating (0x00FF00FF ∷ 0xFF0000FF ∷ third ∷ 0 ∷ [])) (λ third. 0x00FF00FF ∷ 0xFF0000FF ∷ third ∷ 0x7F7F00FF ∷ [])
     -- 4096 by 1: 13 levels, 8,191 texels. 4097: refusal 2
-    ∷ row 3 (sizes 4096 1 12) (Ok 8190 1 1 8191)
+    ∷ row 3 (sizes 4096 1 12) (level 8190 1 1 8191)
     ∷ row 3 (sizes 4096 1 13) (refused 6)
     ∷ row 3 (sizes 4097 1 0) (refused 2)
     -- Cubemap 2 by 2: levels at 0 and 24; 30 texels
-    ∷ row 4 (level_sizes_answer cubemap 2 2 0) (Ok 0 2 2 30)
-    ∷ row 4 (level_sizes_answer cubemap 2 2 1) (Ok 24 1 1 30)
+    ∷ row 4 (level_sizes_answer cubemap 2 2 0) (level 0 2 2 30)
+    ∷ row 4 (level_sizes_answer cubemap 2 2 1) (level 24 1 1 30)
     ∷ row 4 (level_sizes_answer cubemap 2 2 2) (refused 6)
     -- Linear 00FF00FF, FF0000FF side by side: 7F7F00FF, nearest 808000FF
     ∷ row 5 (pair linear truncating 0x00FF00FF 0xFF0000FF) (0x00FF00FF ∷ 0xFF0000FF ∷ 0x7F7F00FF ∷ [])

@@ -1,10 +1,10 @@
 // The ranges beside a picture, as C calls them.
 ghost use Rattle.std.specs.Prelude.{◌≡◌, length};
-ghost use Rattle.rules.specs.Refusals.{replace_refusal};
+ghost use Rattle.rules.specs.Refusals.{number_in, replace_refusal};
 ghost use Rattle.rules.specs.Answers.{ranges_answer, ranges_leaves, replace_leaves, replace_ranges_leaves};
-ghost use Rattle.station.specs.Written.{bytes_number, bytes_written};
+ghost use Rattle.station.specs.Written.{handed, number_words};
 
-use crate::written::bytes_out;
+use crate::written::{hand_out, number};
 
 pub fn swathecold_build_ranges(
     kind: u32,
@@ -14,11 +14,11 @@ pub fn swathecold_build_ranges(
     ranges: &mut [u8],
     written: &mut u64,
 ) -> u32
-    ensures number { result ≡ bytes_number (ranges_answer kind width height texels.now ranges.old) }
-    ensures writes { written.new ≡ bytes_written (ranges_answer kind width height texels.now ranges.old) written.old }
+    ensures number { result ≡ number_in (ranges_answer kind width height texels.now ranges.old) }
+    ensures writes { written.new ≡ handed number_words (ranges_answer kind width height texels.now ranges.old) written.old }
     ensures leaves { ranges.new ≡ ranges_leaves kind width height texels.now ranges.old }
 {
-    bytes_out(
+    hand_out(
         ranges::build_ranges(kind, width, height, texels, ranges),
         written,
     )
@@ -38,5 +38,5 @@ pub fn swathecold_replace_texel(
     ensures texels { texels.new ≡ replace_leaves kind width height texels.old ranges.old x y texel }
     ensures ranges { ranges.new ≡ replace_ranges_leaves kind width height texels.old ranges.old x y texel }
 {
-    ranges::replace_texel(kind, width, height, texels, ranges, x, y, texel)
+    number(ranges::replace_texel(kind, width, height, texels, ranges, x, y, texel))
 }

@@ -1,9 +1,10 @@
 // The check of another tool's chain, as C calls it: of all its levels, and of one.
 ghost use Rattle.std.specs.Prelude.{◌≡◌};
+ghost use Rattle.rules.specs.Refusals.{number_in};
 ghost use Rattle.rules.specs.Answers.{check_chain_answer, check_level_answer};
-ghost use Rattle.station.specs.Written.{checked_number, verdict_written};
+ghost use Rattle.station.specs.Written.{handed, verdict_words};
 
-use crate::written::checked_out;
+use crate::written::hand_out;
 
 pub fn swathecold_check_chain(
     kind: u32,
@@ -13,10 +14,10 @@ pub fn swathecold_check_chain(
     texels: &[u32],
     verdict: &mut [u64; 2],
 ) -> u32
-    ensures number { result ≡ checked_number (check_chain_answer kind width height mode texels.now) }
-    ensures writes { verdict.new ≡ verdict_written (check_chain_answer kind width height mode texels.now) verdict.old }
+    ensures number { result ≡ number_in (check_chain_answer kind width height mode texels.now) }
+    ensures writes { verdict.new ≡ handed verdict_words (check_chain_answer kind width height mode texels.now) verdict.old }
 {
-    checked_out(
+    hand_out(
         texture::check_chain(kind, width, height, mode, texels),
         verdict,
     )
@@ -31,10 +32,10 @@ pub fn swathecold_check_level(
     level: u32,
     verdict: &mut [u64; 2],
 ) -> u32
-    ensures number { result ≡ checked_number (check_level_answer kind width height mode texels.now level) }
-    ensures writes { verdict.new ≡ verdict_written (check_level_answer kind width height mode texels.now level) verdict.old }
+    ensures number { result ≡ number_in (check_level_answer kind width height mode texels.now level) }
+    ensures writes { verdict.new ≡ handed verdict_words (check_level_answer kind width height mode texels.now level) verdict.old }
 {
-    checked_out(
+    hand_out(
         texture::check_level(kind, width, height, mode, texels, level),
         verdict,
     )

@@ -1,37 +1,22 @@
 // Four numbers behind a pointer, as lanes.
 ghost use Rattle.std.specs.Prelude.{◌≡◌};
-ghost use Rattle.station.specs.Written.{to_lanes, to_wholes, to_directions};
+ghost use Rattle.station.specs.Written.{to_four, to_directions};
 
-use rules::{Directions, Lanes, Wholes};
+use rules::{Directions, Four};
 
-pub fn lanes(l: &[f32; 4]) -> Lanes
-    ensures { result ≡ to_lanes l.now }
+pub fn four<T: Copy>(l: &[T; 4]) -> Four<T>
+    ensures { (other : T) → result ≡ to_four other l.now }
 {
-    Lanes {
-        a: l[0],
-        b: l[1],
-        c: l[2],
-        d: l[3],
-    }
-}
-
-pub fn wholes(l: &[u32; 4]) -> Wholes
-    ensures { result ≡ to_wholes l.now }
-{
-    Wholes {
-        a: l[0],
-        b: l[1],
-        c: l[2],
-        d: l[3],
-    }
+    let [a, b, c, d] = *l;
+    Four { a, b, c, d }
 }
 
 pub fn directions(x: &[f32; 4], y: &[f32; 4], z: &[f32; 4]) -> Directions
     ensures { result ≡ to_directions x.now y.now z.now }
 {
     Directions {
-        x: lanes(x),
-        y: lanes(y),
-        z: lanes(z),
+        x: four(x),
+        y: four(y),
+        z: four(z),
     }
 }

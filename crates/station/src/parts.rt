@@ -1,11 +1,11 @@
 // Sizes, the chain, the view, the cut and the cross, as C calls them.
 ghost use Rattle.std.specs.Prelude.{◌≡◌, length};
-ghost use Rattle.rules.specs.Refusals.{view_refusal};
+ghost use Rattle.rules.specs.Refusals.{number_in, view_refusal};
 ghost use Rattle.rules.specs.Answers.{level_sizes_answer, chain_answer, chain_leaves, cut_answer, cut_leaves, cross_answer, cross_leaves};
-ghost use Rattle.station.specs.Written.{pair_of, sizes_number, sizes_written, filled_number, filled_written, view_written};
+ghost use Rattle.station.specs.Written.{pair_of, handed, number_words, sizes_words, view_written};
 
-use crate::written::{filled_out, sizes_out};
-use rules::{Pair, Sizes};
+use crate::written::hand_out;
+use rules::Pair;
 
 pub fn swathecold_level_sizes(
     kind: u32,
@@ -14,10 +14,10 @@ pub fn swathecold_level_sizes(
     level: u32,
     sizes: &mut [u64; 4],
 ) -> u32
-    ensures number { result ≡ sizes_number (level_sizes_answer kind width height level) }
-    ensures writes { sizes.new ≡ sizes_written (level_sizes_answer kind width height level) sizes.old }
+    ensures number { result ≡ number_in (level_sizes_answer kind width height level) }
+    ensures writes { sizes.new ≡ handed sizes_words (level_sizes_answer kind width height level) sizes.old }
 {
-    sizes_out(texture::level_sizes(kind, width, height, level), sizes)
+    hand_out(texture::level_sizes(kind, width, height, level), sizes)
 }
 
 pub fn swathecold_generate_mipmaps(
@@ -28,11 +28,11 @@ pub fn swathecold_generate_mipmaps(
     texels: &mut [u32],
     written: &mut u64,
 ) -> u32
-    ensures number { result ≡ filled_number (chain_answer kind width height mode texels.old) }
-    ensures writes { written.new ≡ filled_written (chain_answer kind width height mode texels.old) written.old }
+    ensures number { result ≡ number_in (chain_answer kind width height mode texels.old) }
+    ensures writes { written.new ≡ handed number_words (chain_answer kind width height mode texels.old) written.old }
     ensures leaves { texels.new ≡ chain_leaves kind width height mode texels.old }
 {
-    filled_out(
+    hand_out(
         texture::generate_mipmaps(kind, width, height, mode, texels),
         written,
     )
@@ -45,11 +45,11 @@ pub fn swathecold_cut_cross(
     faces: &mut [u32],
     written: &mut u64,
 ) -> u32
-    ensures number { result ≡ filled_number (cross_answer width height bytes.now faces.old) }
-    ensures writes { written.new ≡ filled_written (cross_answer width height bytes.now faces.old) written.old }
+    ensures number { result ≡ number_in (cross_answer width height bytes.now faces.old) }
+    ensures writes { written.new ≡ handed number_words (cross_answer width height bytes.now faces.old) written.old }
     ensures leaves { faces.new ≡ cross_leaves width height bytes.now faces.old }
 {
-    filled_out(texture::cut_cross(width, height, bytes, faces), written)
+    hand_out(texture::cut_cross(width, height, bytes, faces), written)
 }
 
 pub fn swathecold_cut(
@@ -65,8 +65,8 @@ pub fn swathecold_cut(
     target: &mut [u32],
     written: &mut u64,
 ) -> u32
-    ensures number { result ≡ filled_number (cut_answer kind width height source.now order (pair_of corner_x corner_y) (pair_of cut_width cut_height) target.old) }
-    ensures writes { written.new ≡ filled_written (cut_answer kind width height source.now order (pair_of corner_x corner_y) (pair_of cut_width cut_height) target.old) written.old }
+    ensures number { result ≡ number_in (cut_answer kind width height source.now order (pair_of corner_x corner_y) (pair_of cut_width cut_height) target.old) }
+    ensures writes { written.new ≡ handed number_words (cut_answer kind width height source.now order (pair_of corner_x corner_y) (pair_of cut_width cut_height) target.old) written.old }
     ensures leaves { target.new ≡ cut_leaves kind width height source.now order (pair_of corner_x corner_y) (pair_of cut_width cut_height) target.old }
 {
     let corner = Pair {
@@ -77,7 +77,7 @@ pub fn swathecold_cut(
         x: cut_width,
         y: cut_height,
     };
-    filled_out(
+    hand_out(
         texture::cut(kind, width, height, source, order, corner, sides, target),
         written,
     )
@@ -96,21 +96,8 @@ pub fn swathecold_level_view(
     ensures number { result ≡ view_refusal kind width height (length texels.now) level face }
     ensures writes { part.new ≡ view_written kind width height (length texels.now) level face part.old }
 {
-    let n = texture::level_view_refusal(kind, width, height, texels, level, face);
-    if n != 0 {
-        return n;
-    }
-    let found = texture::level_sizes(kind, width, height, level);
-    let Sizes::Level {
-        start,
-        width: w,
-        height: h,
-        ..
-    } = found
-    else {
-        return n;
-    };
-    let size = (h as u64) * (w as u64);
-    *part = [(start as u64) + (face as u64) * size, size];
-    n
+    hand_out(
+        texture::face_of(kind, width, height, texels.len(), level, face),
+        part,
+    )
 }

@@ -1,151 +1,134 @@
-// An answer handed out: its values through the out parameters, and 0; or its refusal number, and nothing written.
+// An answer handed out: its words through the out parameter, and 0; or its refusal's number, and nothing written.
 ghost use Rattle.std.specs.Prelude.{◌≡◌};
-ghost use Rattle.station.specs.Written.{sizes_number, sizes_written, filled_number, filled_written, verdict_words, checked_number, verdict_written, bytes_number, bytes_written, level_number, level_written, colour_number, colour_written, alpha_number, alpha_written, facing_number, uv_written, faces_written, light_number, light_written};
+ghost use Rattle.rules.specs.Refusals.{number_in};
+ghost use Rattle.station.specs.Written.{handed, number_words, sizes_words, verdict_words, four_words, colour_words, uv_words, faces_words, light_words, part_words};
 
-use rules::{
-    Alpha, Checked, Colour, Facing, Filled, Irradiance, Lanes, Level, Sizes, Verdict, Written,
-};
+use levels::view::Face;
+use rules::{Directions, Four, LevelSizes, Refusal, Sh4, Spots};
 
-pub fn sizes_out(answer: Sizes, sizes: &mut [u64; 4]) -> u32
-    ensures number { result ≡ sizes_number answer }
-    ensures writes { sizes.new ≡ sizes_written answer sizes.old }
+// What is handed out for a value.
+pub trait Words<W> {
+    ghost words_of: { Self → W };
+
+    fn words(self) -> W
+        ensures { result ≡ words_of self };
+}
+
+// The number of an answer that has nothing to hand out.
+pub fn number(answer: Result<(), Refusal>) -> u32
+    ensures { result ≡ number_in answer }
 {
     match answer {
-        Sizes::Level {
-            start,
-            width,
-            height,
-            total,
-        } => {
-            *sizes = [start as u64, width as u64, height as u64, total as u64];
-            0
-        }
-        Sizes::Refused(n) => n,
+        Ok(()) => 0,
+        Err(refusal) => refusal.number(),
     }
 }
 
-pub fn filled_out(answer: Filled, written: &mut u64) -> u32
-    ensures number { result ≡ filled_number answer }
-    ensures writes { written.new ≡ filled_written answer written.old }
+pub fn hand_out<T: Words<W>, W: Copy>(answer: Result<T, Refusal>, out: &mut W) -> u32
+    ensures number { result ≡ number_in answer }
+    ensures writes { out.new ≡ handed T.words_of answer out.old }
 {
     match answer {
-        Filled::Texels(n) => {
-            *written = n as u64;
+        Ok(given) => {
+            *out = given.words();
             0
         }
-        Filled::Refused(n) => n,
+        Err(refusal) => refusal.number(),
     }
 }
 
-// What a verdict is at the boundary: 1 and 0, or 0 and the place.
-fn verdict_words(verdict: Verdict) -> [u64; 2]
-    ensures { result ≡ verdict_words verdict }
-{
-    match verdict {
-        Verdict::Follows => [1, 0],
-        Verdict::WrongAt(place) => [0, place as u64],
+// A count of texels or bytes.
+impl Words<u64> for usize {
+    ghost words_of = { number_words };
+
+    fn words(self) -> u64 {
+        self as u64
     }
 }
 
-pub fn checked_out(answer: Checked, verdict: &mut [u64; 2]) -> u32
-    ensures number { result ≡ checked_number answer }
-    ensures writes { verdict.new ≡ verdict_written answer verdict.old }
-{
-    match answer {
-        Checked::Of(v) => {
-            *verdict = verdict_words(v);
-            0
-        }
-        Checked::Refused(n) => n,
+// A level.
+impl Words<u32> for u32 {
+    ghost words_of = { number_words };
+
+    fn words(self) -> u32 {
+        self
     }
 }
 
-pub fn bytes_out(answer: Written, written: &mut u64) -> u32
-    ensures number { result ≡ bytes_number answer }
-    ensures writes { written.new ≡ bytes_written answer written.old }
-{
-    match answer {
-        Written::Bytes(n) => {
-            *written = n as u64;
-            0
-        }
-        Written::Refused(n) => n,
+impl Words<[u64; 4]> for LevelSizes {
+    ghost words_of = { sizes_words };
+
+    fn words(self) -> [u64; 4] {
+        [
+            self.start as u64,
+            self.width as u64,
+            self.height as u64,
+            self.total as u64,
+        ]
     }
 }
 
-pub fn level_out(answer: Level, level: &mut u32) -> u32
-    ensures number { result ≡ level_number answer }
-    ensures writes { level.new ≡ level_written answer level.old }
-{
-    match answer {
-        Level::At(m) => {
-            *level = m;
-            0
+// A verdict: 1 and 0 where the levels follow; else 0 and the first wrong texel's place.
+impl Words<[u64; 2]> for Option<usize> {
+    ghost words_of = { verdict_words };
+
+    fn words(self) -> [u64; 2] {
+        match self {
+            None => [1, 0],
+            Some(place) => [0, place as u64],
         }
-        Level::Refused(n) => n,
     }
 }
 
-pub fn colour_out(answer: Colour, rgb: &mut [f32; 12]) -> u32
-    ensures number { result ≡ colour_number answer }
-    ensures writes { rgb.new ≡ colour_written answer rgb.old }
-{
-    match answer {
-        Colour::Rgb(c) => {
-            let x = c.x;
-            let y = c.y;
-            let z = c.z;
-            *rgb = [x.a, x.b, x.c, x.d, y.a, y.b, y.c, y.d, z.a, z.b, z.c, z.d];
-            0
-        }
-        Colour::Refused(n) => n,
+// The place of a part.
+impl Words<[u64; 2]> for Face {
+    ghost words_of = { part_words };
+
+    fn words(self) -> [u64; 2] {
+        [self.start as u64, self.size as u64]
     }
 }
 
-pub fn alpha_out(answer: Alpha, alpha: &mut [f32; 4]) -> u32
-    ensures number { result ≡ alpha_number answer }
-    ensures writes { alpha.new ≡ alpha_written answer alpha.old }
-{
-    match answer {
-        Alpha::Of(l) => {
-            *alpha = [l.a, l.b, l.c, l.d];
-            0
-        }
-        Alpha::Refused(n) => n,
+impl<T: Copy> Words<[T; 4]> for Four<T> {
+    ghost words_of = { four_words };
+
+    fn words(self) -> [T; 4] {
+        [self.a, self.b, self.c, self.d]
     }
 }
 
-pub fn facing_out(answer: Facing, uv: &mut [f32; 8], faces: &mut [u32; 4]) -> u32
-    ensures number { result ≡ facing_number answer }
-    ensures places { uv.new ≡ uv_written answer uv.old }
-    ensures faces { faces.new ≡ faces_written answer faces.old }
-{
-    match answer {
-        Facing::On(s) => {
-            let u = s.u;
-            let v = s.v;
-            let f = s.faces;
-            *uv = [u.a, u.b, u.c, u.d, v.a, v.b, v.c, v.d];
-            *faces = [f.a, f.b, f.c, f.d];
-            0
-        }
-        Facing::Refused(n) => n,
+// Four colours.
+impl Words<[f32; 12]> for Directions {
+    ghost words_of = { colour_words };
+
+    fn words(self) -> [f32; 12] {
+        let (x, y, z) = (self.x, self.y, self.z);
+        [x.a, x.b, x.c, x.d, y.a, y.b, y.c, y.d, z.a, z.b, z.c, z.d]
     }
 }
 
-pub fn light_out(answer: Irradiance, sh: &mut [f32; 12]) -> u32
-    ensures number { result ≡ light_number answer }
-    ensures writes { sh.new ≡ light_written answer sh.old }
-{
-    match answer {
-        Irradiance::Of(s) => {
-            let c = s.constant;
-            let y = s.y;
-            let z = s.z;
-            let x = s.x;
-            *sh = [c.r, c.g, c.b, y.r, y.g, y.b, z.r, z.g, z.b, x.r, x.g, x.b];
-            0
-        }
-        Irradiance::Refused(n) => n,
+impl Words<[f32; 8]> for Spots {
+    ghost words_of = { uv_words };
+
+    fn words(self) -> [f32; 8] {
+        let (u, v) = (self.u, self.v);
+        [u.a, u.b, u.c, u.d, v.a, v.b, v.c, v.d]
+    }
+}
+
+impl Words<[u32; 4]> for Spots {
+    ghost words_of = { faces_words };
+
+    fn words(self) -> [u32; 4] {
+        self.face.words()
+    }
+}
+
+impl Words<[f32; 12]> for Sh4 {
+    ghost words_of = { light_words };
+
+    fn words(self) -> [f32; 12] {
+        let (c, y, z, x) = (self.constant, self.y, self.z, self.x);
+        [c.r, c.g, c.b, y.r, y.g, y.b, z.r, z.g, z.b, x.r, x.g, x.b]
     }
 }

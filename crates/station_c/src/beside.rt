@@ -1,8 +1,8 @@
 // The ranges beside a picture, exported.
 ghost use Rattle.std.specs.Prelude.{◌≡◌, length};
-ghost use Rattle.rules.specs.Refusals.{replace_refusal};
+ghost use Rattle.rules.specs.Refusals.{number_in, replace_refusal};
 ghost use Rattle.rules.specs.Answers.{ranges_answer, ranges_leaves, replace_leaves, replace_ranges_leaves};
-ghost use Rattle.station.specs.Written.{bytes_number, bytes_written};
+ghost use Rattle.station.specs.Written.{handed, number_words};
 
 #[unsafe(no_mangle)]
 pub extern "C" fn swathecold_build_ranges(
@@ -13,8 +13,8 @@ pub extern "C" fn swathecold_build_ranges(
     ranges: &mut [u8],
     written: &mut u64,
 ) -> u32
-    ensures number { result ≡ bytes_number (ranges_answer kind width height texels.now ranges.old) }
-    ensures writes { written.new ≡ bytes_written (ranges_answer kind width height texels.now ranges.old) written.old }
+    ensures number { result ≡ number_in (ranges_answer kind width height texels.now ranges.old) }
+    ensures writes { written.new ≡ handed number_words (ranges_answer kind width height texels.now ranges.old) written.old }
     ensures leaves { ranges.new ≡ ranges_leaves kind width height texels.now ranges.old }
 {
     station::beside::swathecold_build_ranges(kind, width, height, texels, ranges, written)

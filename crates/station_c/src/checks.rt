@@ -1,7 +1,8 @@
 // The check of another tool's chain, exported: of all its levels, and of one.
 ghost use Rattle.std.specs.Prelude.{◌≡◌};
+ghost use Rattle.rules.specs.Refusals.{number_in};
 ghost use Rattle.rules.specs.Answers.{check_chain_answer, check_level_answer};
-ghost use Rattle.station.specs.Written.{checked_number, verdict_written};
+ghost use Rattle.station.specs.Written.{handed, verdict_words};
 
 #[unsafe(no_mangle)]
 pub extern "C" fn swathecold_check_chain(
@@ -12,8 +13,8 @@ pub extern "C" fn swathecold_check_chain(
     texels: &[u32],
     verdict: &mut [u64; 2],
 ) -> u32
-    ensures number { result ≡ checked_number (check_chain_answer kind width height mode texels.now) }
-    ensures writes { verdict.new ≡ verdict_written (check_chain_answer kind width height mode texels.now) verdict.old }
+    ensures number { result ≡ number_in (check_chain_answer kind width height mode texels.now) }
+    ensures writes { verdict.new ≡ handed verdict_words (check_chain_answer kind width height mode texels.now) verdict.old }
 {
     station::checks::swathecold_check_chain(kind, width, height, mode, texels, verdict)
 }
@@ -28,8 +29,8 @@ pub extern "C" fn swathecold_check_level(
     level: u32,
     verdict: &mut [u64; 2],
 ) -> u32
-    ensures number { result ≡ checked_number (check_level_answer kind width height mode texels.now level) }
-    ensures writes { verdict.new ≡ verdict_written (check_level_answer kind width height mode texels.now level) verdict.old }
+    ensures number { result ≡ number_in (check_level_answer kind width height mode texels.now level) }
+    ensures writes { verdict.new ≡ handed verdict_words (check_level_answer kind width height mode texels.now level) verdict.old }
 {
     station::checks::swathecold_check_level(kind, width, height, mode, texels, level, verdict)
 }

@@ -1,8 +1,8 @@
 // Sizes, the chain, the view, the cut and the cross, exported.
 ghost use Rattle.std.specs.Prelude.{◌≡◌, length};
-ghost use Rattle.rules.specs.Refusals.{view_refusal};
+ghost use Rattle.rules.specs.Refusals.{number_in, view_refusal};
 ghost use Rattle.rules.specs.Answers.{level_sizes_answer, chain_answer, chain_leaves, cut_answer, cut_leaves, cross_answer, cross_leaves};
-ghost use Rattle.station.specs.Written.{pair_of, sizes_number, sizes_written, filled_number, filled_written, view_written};
+ghost use Rattle.station.specs.Written.{pair_of, handed, number_words, sizes_words, view_written};
 
 #[unsafe(no_mangle)]
 pub extern "C" fn swathecold_level_sizes(
@@ -12,8 +12,8 @@ pub extern "C" fn swathecold_level_sizes(
     level: u32,
     sizes: &mut [u64; 4],
 ) -> u32
-    ensures number { result ≡ sizes_number (level_sizes_answer kind width height level) }
-    ensures writes { sizes.new ≡ sizes_written (level_sizes_answer kind width height level) sizes.old }
+    ensures number { result ≡ number_in (level_sizes_answer kind width height level) }
+    ensures writes { sizes.new ≡ handed sizes_words (level_sizes_answer kind width height level) sizes.old }
 {
     station::parts::swathecold_level_sizes(kind, width, height, level, sizes)
 }
@@ -27,8 +27,8 @@ pub extern "C" fn swathecold_generate_mipmaps(
     texels: &mut [u32],
     written: &mut u64,
 ) -> u32
-    ensures number { result ≡ filled_number (chain_answer kind width height mode texels.old) }
-    ensures writes { written.new ≡ filled_written (chain_answer kind width height mode texels.old) written.old }
+    ensures number { result ≡ number_in (chain_answer kind width height mode texels.old) }
+    ensures writes { written.new ≡ handed number_words (chain_answer kind width height mode texels.old) written.old }
     ensures leaves { texels.new ≡ chain_leaves kind width height mode texels.old }
 {
     station::parts::swathecold_generate_mipmaps(kind, width, height, mode, texels, written)
@@ -42,8 +42,8 @@ pub extern "C" fn swathecold_cut_cross(
     faces: &mut [u32],
     written: &mut u64,
 ) -> u32
-    ensures number { result ≡ filled_number (cross_answer width height bytes.now faces.old) }
-    ensures writes { written.new ≡ filled_written (cross_answer width height bytes.now faces.old) written.old }
+    ensures number { result ≡ number_in (cross_answer width height bytes.now faces.old) }
+    ensures writes { written.new ≡ handed number_words (cross_answer width height bytes.now faces.old) written.old }
     ensures leaves { faces.new ≡ cross_leaves width height bytes.now faces.old }
 {
     station::parts::swathecold_cut_cross(width, height, bytes, faces, written)
@@ -63,8 +63,8 @@ pub extern "C" fn swathecold_cut(
     target: &mut [u32],
     written: &mut u64,
 ) -> u32
-    ensures number { result ≡ filled_number (cut_answer kind width height source.now order (pair_of corner_x corner_y) (pair_of cut_width cut_height) target.old) }
-    ensures writes { written.new ≡ filled_written (cut_answer kind width height source.now order (pair_of corner_x corner_y) (pair_of cut_width cut_height) target.old) written.old }
+    ensures number { result ≡ number_in (cut_answer kind width height source.now order (pair_of corner_x corner_y) (pair_of cut_width cut_height) target.old) }
+    ensures writes { written.new ≡ handed number_words (cut_answer kind width height source.now order (pair_of corner_x corner_y) (pair_of cut_width cut_height) target.old) written.old }
     ensures leaves { target.new ≡ cut_leaves kind width height source.now order (pair_of corner_x corner_y) (pair_of cut_width cut_height) target.old }
 {
     station::parts::swathecold_cut(

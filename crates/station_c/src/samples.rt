@@ -1,7 +1,8 @@
 // The lookups, exported.
 ghost use Rattle.std.specs.Prelude.{◌≡◌};
+ghost use Rattle.rules.specs.Refusals.{number_in};
 ghost use Rattle.rules.specs.Answers.{mip_level_answer, sample4_rgb_answer, sample4_alpha_answer, bilinear_rgb_answer, bilinear_alpha_answer, facing_answer, cubemap_answer, trilinear_answer};
-ghost use Rattle.station.specs.Written.{to_lanes, to_wholes, to_directions, sampler_of, level_number, level_written, colour_number, colour_written, alpha_number, alpha_written, facing_number, uv_written, faces_written};
+ghost use Rattle.station.specs.Written.{to_lanes, to_wholes, to_directions, sampler_of, handed, number_words, four_words, colour_words, uv_words, faces_words};
 
 #[unsafe(no_mangle)]
 pub extern "C" fn swathecold_compute_mip_level(
@@ -10,8 +11,8 @@ pub extern "C" fn swathecold_compute_mip_level(
     steps: &[f32; 4],
     level: &mut u32,
 ) -> u32
-    ensures number { result ≡ level_number (mip_level_answer width height (to_lanes steps.now)) }
-    ensures writes { level.new ≡ level_written (mip_level_answer width height (to_lanes steps.now)) level.old }
+    ensures number { result ≡ number_in (mip_level_answer width height (to_lanes steps.now)) }
+    ensures writes { level.new ≡ handed number_words (mip_level_answer width height (to_lanes steps.now)) level.old }
 {
     station::samples::swathecold_compute_mip_level(width, height, steps, level)
 }
@@ -29,8 +30,8 @@ pub extern "C" fn swathecold_sample4_rgb(
     steps: &[f32; 4],
     rgb: &mut [f32; 12],
 ) -> u32
-    ensures number { result ≡ colour_number (sample4_rgb_answer kind width height texels.now (sampler_of wrap_s wrap_t) (to_lanes u.now) (to_lanes v.now) (to_lanes steps.now)) }
-    ensures writes { rgb.new ≡ colour_written (sample4_rgb_answer kind width height texels.now (sampler_of wrap_s wrap_t) (to_lanes u.now) (to_lanes v.now) (to_lanes steps.now)) rgb.old }
+    ensures number { result ≡ number_in (sample4_rgb_answer kind width height texels.now (sampler_of wrap_s wrap_t) (to_lanes u.now) (to_lanes v.now) (to_lanes steps.now)) }
+    ensures writes { rgb.new ≡ handed colour_words (sample4_rgb_answer kind width height texels.now (sampler_of wrap_s wrap_t) (to_lanes u.now) (to_lanes v.now) (to_lanes steps.now)) rgb.old }
 {
     station::samples::swathecold_sample4_rgb(
         kind, width, height, texels, wrap_s, wrap_t, u, v, steps, rgb,
@@ -50,8 +51,8 @@ pub extern "C" fn swathecold_sample4_alpha(
     steps: &[f32; 4],
     alpha: &mut [f32; 4],
 ) -> u32
-    ensures number { result ≡ alpha_number (sample4_alpha_answer kind width height texels.now (sampler_of wrap_s wrap_t) (to_lanes u.now) (to_lanes v.now) (to_lanes steps.now)) }
-    ensures writes { alpha.new ≡ alpha_written (sample4_alpha_answer kind width height texels.now (sampler_of wrap_s wrap_t) (to_lanes u.now) (to_lanes v.now) (to_lanes steps.now)) alpha.old }
+    ensures number { result ≡ number_in (sample4_alpha_answer kind width height texels.now (sampler_of wrap_s wrap_t) (to_lanes u.now) (to_lanes v.now) (to_lanes steps.now)) }
+    ensures writes { alpha.new ≡ handed four_words (sample4_alpha_answer kind width height texels.now (sampler_of wrap_s wrap_t) (to_lanes u.now) (to_lanes v.now) (to_lanes steps.now)) alpha.old }
 {
     station::samples::swathecold_sample4_alpha(
         kind, width, height, texels, wrap_s, wrap_t, u, v, steps, alpha,
@@ -72,8 +73,8 @@ pub extern "C" fn swathecold_sample_bilinear_rgb(
     faces: &[u32; 4],
     rgb: &mut [f32; 12],
 ) -> u32
-    ensures number { result ≡ colour_number (bilinear_rgb_answer kind width height texels.now (sampler_of wrap_s wrap_t) (to_lanes u.now) (to_lanes v.now) level (to_wholes faces.now)) }
-    ensures writes { rgb.new ≡ colour_written (bilinear_rgb_answer kind width height texels.now (sampler_of wrap_s wrap_t) (to_lanes u.now) (to_lanes v.now) level (to_wholes faces.now)) rgb.old }
+    ensures number { result ≡ number_in (bilinear_rgb_answer kind width height texels.now (sampler_of wrap_s wrap_t) (to_lanes u.now) (to_lanes v.now) level (to_wholes faces.now)) }
+    ensures writes { rgb.new ≡ handed colour_words (bilinear_rgb_answer kind width height texels.now (sampler_of wrap_s wrap_t) (to_lanes u.now) (to_lanes v.now) level (to_wholes faces.now)) rgb.old }
 {
     station::samples::swathecold_sample_bilinear_rgb(
         kind, width, height, texels, wrap_s, wrap_t, u, v, level, faces, rgb,
@@ -93,8 +94,8 @@ pub extern "C" fn swathecold_sample_bilinear_alpha(
     level: u32,
     alpha: &mut [f32; 4],
 ) -> u32
-    ensures number { result ≡ alpha_number (bilinear_alpha_answer kind width height texels.now (sampler_of wrap_s wrap_t) (to_lanes u.now) (to_lanes v.now) level) }
-    ensures writes { alpha.new ≡ alpha_written (bilinear_alpha_answer kind width height texels.now (sampler_of wrap_s wrap_t) (to_lanes u.now) (to_lanes v.now) level) alpha.old }
+    ensures number { result ≡ number_in (bilinear_alpha_answer kind width height texels.now (sampler_of wrap_s wrap_t) (to_lanes u.now) (to_lanes v.now) level) }
+    ensures writes { alpha.new ≡ handed four_words (bilinear_alpha_answer kind width height texels.now (sampler_of wrap_s wrap_t) (to_lanes u.now) (to_lanes v.now) level) alpha.old }
 {
     station::samples::swathecold_sample_bilinear_alpha(
         kind, width, height, texels, wrap_s, wrap_t, u, v, level, alpha,
@@ -109,9 +110,9 @@ pub extern "C" fn swathecold_cubemap_uv_from_normal(
     uv: &mut [f32; 8],
     faces: &mut [u32; 4],
 ) -> u32
-    ensures number { result ≡ facing_number (facing_answer (to_directions x.now y.now z.now)) }
-    ensures places { uv.new ≡ uv_written (facing_answer (to_directions x.now y.now z.now)) uv.old }
-    ensures faces { faces.new ≡ faces_written (facing_answer (to_directions x.now y.now z.now)) faces.old }
+    ensures number { result ≡ number_in (facing_answer (to_directions x.now y.now z.now)) }
+    ensures places { uv.new ≡ handed uv_words (facing_answer (to_directions x.now y.now z.now)) uv.old }
+    ensures faces { faces.new ≡ handed faces_words (facing_answer (to_directions x.now y.now z.now)) faces.old }
 {
     station::samples::swathecold_cubemap_uv_from_normal(x, y, z, uv, faces)
 }
@@ -128,8 +129,8 @@ pub extern "C" fn swathecold_sample_cubemap_rgb(
     levels: &[u32; 4],
     rgb: &mut [f32; 12],
 ) -> u32
-    ensures number { result ≡ colour_number (cubemap_answer kind width height texels.now (to_directions x.now y.now z.now) (to_wholes levels.now)) }
-    ensures writes { rgb.new ≡ colour_written (cubemap_answer kind width height texels.now (to_directions x.now y.now z.now) (to_wholes levels.now)) rgb.old }
+    ensures number { result ≡ number_in (cubemap_answer kind width height texels.now (to_directions x.now y.now z.now) (to_wholes levels.now)) }
+    ensures writes { rgb.new ≡ handed colour_words (cubemap_answer kind width height texels.now (to_directions x.now y.now z.now) (to_wholes levels.now)) rgb.old }
 {
     station::samples::swathecold_sample_cubemap_rgb(
         kind, width, height, texels, x, y, z, levels, rgb,
@@ -148,8 +149,8 @@ pub extern "C" fn swathecold_sample_cubemap_trilinear_rgb(
     levels: &[f32; 4],
     rgb: &mut [f32; 12],
 ) -> u32
-    ensures number { result ≡ colour_number (trilinear_answer kind width height texels.now (to_directions x.now y.now z.now) (to_lanes levels.now)) }
-    ensures writes { rgb.new ≡ colour_written (trilinear_answer kind width height texels.now (to_directions x.now y.now z.now) (to_lanes levels.now)) rgb.old }
+    ensures number { result ≡ number_in (trilinear_answer kind width height texels.now (to_directions x.now y.now z.now) (to_lanes levels.now)) }
+    ensures writes { rgb.new ≡ handed colour_words (trilinear_answer kind width height texels.now (to_directions x.now y.now z.now) (to_lanes levels.now)) rgb.old }
 {
     station::samples::swathecold_sample_cubemap_trilinear_rgb(
         kind, width, height, texels, x, y, z, levels, rgb,

@@ -1,42 +1,40 @@
--- The place is that of the view: where the view is given, so are the level's sizes, and the part that they show is the view's.
-use mathlib.Core.Path.{sym, ◌∙◌}
-use native.Mathlib.Omega.{arith}
-use lib.ListN.{length}
-use Rattle.rules.specs.View.{face_start}
-use Rattle.rules.proofs.Refusing.{Viewed, view-facts, answer-given, answer-refused}
-use Rattle.levels.proofs.Viewing.{Seen, seen, not-refused}
-use Rattle.station.specs.Written.{view_written}
+-- `station::parts::swathecold_level_view` meets its contract: the number is that of the view's test, and where it is passed the place
+-- that is handed out is the face's own.
+use mathlib.Core.Path.{◌≡◌, refl, sym, ap, ◌∙◌}
+use mathlib.Core.List.{List}
+use Prim.Native.Nat.{ℕ, ◌+◌, ◌≤◌}
+use Rattle.std.specs.Prelude.{Result, Ok, Err, IfOk}
+use Rattle.rules.specs.declared.Refusal.{Refusal}
+use Rattle.rules.specs.Refusals.{number_in, view_refusal}
+use Rattle.rules.specs.Answers.{done, told}
+use Rattle.rules.proofs.Answering.{told_none, leaves_as}
+use Rattle.rules.proofs.Numbers.{known-answer, known-view}
+use Rattle.rules.proofs.Refusing.{answer-given}
+use Rattle.levels.specs.declared.view.Face.{Face}
+use Rattle.levels.specs.Pictures.{IsFace}
+use Rattle.station.specs.Written.{handed, part_words, view_written}
 use Rattle.station.proofs.parts.swathecold_level_view.Goals as goal
-use Rattle.station.proofs.parts.swathecold_level_view.Goals.{Else-n-ne0, In-Level}
 
-pub returns-then-n-ne0-clause-writes : goal.returns-then-n-ne0-clause-writes
+number_done : {A : Type 0} (found : Result A Refusal) → number_in found ≡ number_in (done found)
+number_done (Ok given) = refl
+number_done (Err refusal) = refl
+
+part_handed : (kind w h n m f : ℕ) (found : Result Face Refusal) (old : List ℕ)
+    → done found ≡ told (view_refusal kind w h n m f)
+    → IfOk found (λ r. IsFace kind w h m f r × (r.start + r.size ≤ n))
+    → handed part_words found old ≡ view_written kind w h n m f old
 unfolding view_written
-returns-then-n-ne0-clause-writes c = sym (answer-refused _ _ _ (λ z. c.if-n-ne0.true (c.level_view_refusal-n.ensures.answer ∙ z)))
+part_handed kind w h n m f (Ok r) old e is = rw (is.0.0, is.0.1) (sym (answer-given _ _ _ (told_none _ (sym e))))
+part_handed kind w h n m f (Err refusal) old e is = sym (leaves_as _ _ _ ∙ rw (← e))
 
--- past the test nothing is refused
-known : (c : goal.Else-n-ne0) → let a = c.args in Viewed a.kind a.width a.height (length a.texels.now) a.level a.face
-known c = view-facts _ _ _ _ _ _ (sym c.level_view_refusal-n.ensures.answer ∙ c.if-n-ne0.false)
-
-pub returns-in_default-clause-writes : goal.returns-in_default-clause-writes
-returns-in_default-clause-writes c =
-    absurd (not-refused (known (goal.at.returns-in_default-clause-writes c).Else-n-ne0) (sym c.level_sizes-found.ensures.answer ∙ c.in_default.is))
-
--- the start and sides that were answered
-sizes : (c : goal.In-Level)
-    → let a = c.args in
-    let at = c.in-Level in
-    Seen a.kind a.width a.height (length a.texels.now) a.level a.face at.start at.w at.h
-sizes c = seen (known (goal.at.In-Level c).Else-n-ne0) (sym c.level_sizes-found.ensures.answer ∙ c.in-Level.is)
-
-pub overflow_mul-part : goal.overflow_mul-part
-overflow_mul-part c = omega (arith, (sizes (goal.at.overflow_mul-part c).In-Level).ends)
-
-pub overflow_add-part : goal.overflow_add-part
-overflow_add-part c = omega (arith, (sizes (goal.at.overflow_add-part c).In-Level).ends)
+pub returns-clause-number : goal.returns-clause-number
+returns-clause-number c =
+    c.hand_out.ensures.number
+    ∙ number_done c.face_of.result
+    ∙ ap number_in c.face_of.ensures.told
+    ∙ known-answer _ tt (known-view _ _ _ _ _ _)
 
 pub returns-clause-writes : goal.returns-clause-writes
-unfolding view_written face_start
 returns-clause-writes c =
-    let s = sizes (goal.at.returns-clause-writes c).In-Level in
-    let none = sym c.level_view_refusal-n.ensures.answer ∙ c.if-n-ne0.false in
-    rw (s.starts, s.wide, s.high) (sym (answer-given _ _ _ none))
+    c.hand_out.ensures.writes
+    ∙ part_handed _ _ _ _ _ _ _ _ c.face_of.ensures.told c.face_of.ensures.is
