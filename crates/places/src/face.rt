@@ -19,7 +19,7 @@ const LOW: f32 = 0.0000000000000000008673617379884035;
 
 const HIGH: f32 = 1152921504606846976.0;
 
-// |x|; of -0 it is -0, which compares as 0 does: one test, where the library's abs has two.
+// |x|; of -0 it is -0, which compares as 0 does; the library's abs is 0 there.
 #[tactic(auto, unfolding(rules::specs::Floats::magnitude))]
 fn magnitude(x: f32) -> f32
     ensures { result ≡ magnitude_of x }

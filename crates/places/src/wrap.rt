@@ -37,7 +37,7 @@ impl TryFrom<Sampler> for Wrapping {
     }
 }
 
-// The smaller of two numbers, and the larger: one comparison each, where the library's min and max have two.
+// The smaller of two numbers, and the larger: the library's min and max leave open which of 0 and -0 they answer.
 fn least(a: f32, b: f32) -> f32
     ensures { result ≡ least_of a b }
 {
