@@ -16,7 +16,7 @@ use Rattle.rules.specs.Sizes.{top}
 use Rattle.rules.specs.Places.{plane_of}
 use Rattle.rules.specs.Refusals.{face_taken, sample4_refusal, bilinear_rgb_refusal, bilinear_alpha_refusal, cubemap_refusal, trilinear_refusal}
 use Rattle.rules.specs.Answers.{spots_at, sample4_rgb_answer, sample4_alpha_answer, bilinear_rgb_answer, bilinear_alpha_answer, cubemap_answer, trilinear_answer}
-use Rattle.rules.proofs.Refusing.{Taken, Chained, answer-given}
+use Rattle.rules.proofs.Refusing.{Chained, answer-given}
 use Rattle.rules.proofs.RefusingLookups.{EachWhole, Cubed, face-below, sample4-facts}
 use Rattle.rules.proofs.Bounds.{faces-some}
 use Rattle.rules.proofs.Inside.{mip-below}

@@ -1,6 +1,5 @@
 -- `lookups::bilinear::sample_bilinear_alpha` meets its contract: past the refusals the answer comes from the places that it reads.
 use mathlib.Core.Path.{◌≡◌, sym, ap, ◌∙◌, subst}
-use native.Mathlib.Omega.{arith}
 use Rattle.std.specs.Prelude.{Ok}
 use lib.ListN.{length}
 use Rattle.rules.specs.Places.{plane_of}
@@ -10,7 +9,7 @@ use Rattle.rules.proofs.RefusingLookups.{BilinearAlpha, bilinear-alpha-facts}
 use Rattle.rules.proofs.Answering.{told_none, given_none, given_is}
 use Rattle.lane.specs.Reading.{AllWithin, blended_alpha}
 use Rattle.places.specs.Samplers.{wrapping_of}
-use Rattle.lookups.proofs.Answering.{faces-below, first-below, level-faces, level-squares, bilinear-alpha-read}
+use Rattle.lookups.proofs.Answering.{first-below, level-faces, level-squares, bilinear-alpha-read}
 use Rattle.lookups.proofs.bilinear.sample_bilinear_alpha.Goals as goal
 use Rattle.lookups.proofs.bilinear.sample_bilinear_alpha.Goals.{After-level_at, In_ok-by}
 

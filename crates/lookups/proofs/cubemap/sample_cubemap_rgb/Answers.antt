@@ -1,6 +1,5 @@
 -- `lookups::cubemap::sample_cubemap_rgb` meets its contract: past the refusals each place is one of the texels that are lent.
 use mathlib.Core.Path.{◌≡◌, sym, ap, ◌∙◌, subst}
-use native.Mathlib.Omega.{arith}
 use lib.ListN.{length}
 use Rattle.std.specs.Prelude.{Ok}
 use Rattle.rules.specs.Refusals.{cubemap_refusal}

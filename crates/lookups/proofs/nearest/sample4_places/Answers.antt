@@ -1,7 +1,6 @@
 -- `lookups::nearest::sample4_places` meets its contract: past the refusals the level that the steps ask for is one of the picture's.
-use mathlib.Core.Path.{◌≡◌, sym, ap, ◌∙◌, subst}
+use mathlib.Core.Path.{◌≡◌, sym}
 use native.Mathlib.Omega.{arith}
-use lib.ListN.{length}
 use Rattle.rules.specs.Refusals.{sample4_refusal}
 use Rattle.rules.proofs.Refusing.{or_else-taken, answer-given}
 use Rattle.rules.proofs.RefusingLookups.{Sampled, sample4-facts}

@@ -1,10 +1,7 @@
 -- `lookups::nearest::sample4_rgb` meets its contract: each place is one of the texels that are lent, and the answer is made of them.
-use mathlib.Core.Path.{◌≡◌, sym, ap, ◌∙◌, subst}
-use native.Mathlib.Omega.{arith}
-use lib.ListN.{length}
+use mathlib.Core.Path.{sym, ap, ◌∙◌}
 use Rattle.std.specs.Prelude.{Ok}
 use Rattle.rules.proofs.Answering.{given_none, given_is}
-use Rattle.lane.specs.Reading.{read_rgb}
 use Rattle.lookups.proofs.Answering.{sample4-inside, sample4-rgb-read}
 use Rattle.lookups.proofs.nearest.sample4_rgb.Goals as goal
 

@@ -1,14 +1,12 @@
 -- `lookups::trilinear::sample_cubemap_trilinear_rgb` meets its contract: past the refusals each place is one of the texels that are lent.
 use mathlib.Core.Path.{◌≡◌, sym, ap, ◌∙◌, subst}
-use native.Mathlib.Omega.{arith}
 use lib.ListN.{length}
-use Rattle.std.specs.Prelude.{Ok}
 use Rattle.rules.specs.Refusals.{cubemap_refusal, trilinear_refusal}
 use Rattle.rules.specs.Answers.{spots_at, facing_answer}
 use Rattle.rules.proofs.Refusing.{or_else-taken, cube-facts}
 use Rattle.rules.proofs.RefusingLookups.{Cubed, cubemap-facts, finite-facts}
 use Rattle.rules.proofs.Answering.{told_none, given_none, given_is}
-use Rattle.lane.specs.Reading.{Inside, read_rgb}
+use Rattle.lane.specs.Reading.{Inside}
 use Rattle.lane.proofs.Holding.{cubes-inside}
 use Rattle.lookups.proofs.Answering.{cube-chained, trilinear-made}
 use Rattle.lookups.proofs.trilinear.sample_cubemap_trilinear_rgb.Goals as goal
