@@ -5,3 +5,5 @@ pub mod Steps
 pub mod Runs
 pub mod Standing
 pub mod StandingLevels
+pub mod BufferRows
+pub mod BufferLevels

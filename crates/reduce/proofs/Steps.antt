@@ -4,7 +4,7 @@ use mathlib.Core.Path.{◌≡◌, sym, ap, ◌∙◌}
 use mathlib.Core.List.{List, ◌++◌, append-nil}
 use Prim.Native.Nat.{ℕ, zero, suc, ◌+◌, ◌-◌, ◌*◌, ◌≤◌, ◌<◌}
 use native.Mathlib.Omega.{arith}
-use lib.ListN.{length, take, drop, length-append, length-drop}
+use lib.ListN.{length, take, drop, length-append, length-drop, take-append-drop}
 use lib.Seq.{length-take-le, take_at, drop_at, drop-length}
 use borrow.Author.Rules.{part_to_end}
 use borrow.Rule.Slice.PartMut.{put_mid, Post-is}
@@ -53,6 +53,19 @@ module _ (reduce : ℕ → ℕ → ℕ → ℕ → ℕ) (faces w h left : ℕ) (
       rw (take_at l rest (faces * h * w) long, drop_at l rest (faces * h * w) long)
       (ap (λ (k : ℕ). l ++ filled reduce faces k (half w) (half h) rest) e
       ∙ sym (filled-step reduce faces n w h old s.some-w s.some-h) ∙ ap (λ (k : ℕ). filled reduce faces k w h old) (sym e'))
+
+  -- where no level follows it, the level written is the last
+  pub step-last : (xs : List ℕ) → xs ≡ written reduce faces w h old → left ≤ 2 → xs ≡ filled reduce faces left w h old
+  step-last xs e last =
+      let k : left - 1 ≡ 1 = omega arith in
+      let n = faces * h * w in
+      let ys = written reduce faces w h old in
+      e
+      ∙ sym (take-append-drop n ys)
+      ∙ ap (λ (r : List ℕ). take n ys ++ r)
+      (sym (filled-one reduce faces (half w) (half h) (drop n ys) (omega arith) (omega arith))
+      ∙ ap (λ (l : ℕ). filled reduce faces l (half w) (half h) (drop n ys)) (sym k))
+      ∙ step-done
 
 pub step-none : (reduce : ℕ → ℕ → ℕ → ℕ → ℕ) {faces w h left : ℕ} {old : List ℕ} → Sides faces w h → 1 ≤ left → left ≤ 1 → old ≡ filled reduce faces left w h old
 step-none reduce {faces} {w} {h} {left} {old} s p q =
