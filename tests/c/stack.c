@@ -37,7 +37,7 @@ static void check(void) {
     if (verdict[0] != 1) abort();
 }
 
-/* A check holds copies of two rows' parts besides, and what is made of them. */
+/* A check holds what it makes besides: a part of a row, or a block of narrow rows. */
 static const struct {
     const char *name;
     void (*work)(void);
