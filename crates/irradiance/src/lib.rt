@@ -1,6 +1,6 @@
 // Lighting coefficients: a cubemap as four irradiance coefficients per colour.
-// It stands on the unit's own calls `level_sizes` and `srgb_to_linear`; the bytes of a texel, the square root and the smaller of two numbers
-// are those of the crates below.
+// It stands on the unit's own `Picture`, `check_room` and `srgb_to_linear`; the bytes of a texel and the square root are those of the
+// crate `texel`.
 #![tactic(auto)]
 
 pub mod call;

@@ -1,4 +1,4 @@
-// A kind's rule, chosen once a call. Cubemap and Linear are the plain mean, in nearest mode by whole numbers.
+// A kind's rule, chosen once a chain, and by a check once a level. Cubemap and Linear are the plain mean, in nearest mode by whole numbers.
 ghost use Rattle.std.specs.Prelude.{◌≡◌, ◌+◌, ◌*◌, ◌≤◌, length, get_or, take};
 ghost use Rattle.rules.specs.Sizes.{half, start};
 ghost use Rattle.rules.specs.Levels.{next, filled};

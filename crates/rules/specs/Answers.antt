@@ -7,8 +7,6 @@ use Rattle.rules.specs.declared.Refusal.{Refusal}
 use Rattle.rules.specs.declared.Kind.{Kind}
 use Rattle.rules.specs.declared.Packing.{Packing}
 use Rattle.rules.specs.declared.Mode.{Mode}
-use Rattle.rules.specs.Lanes.{Spot}
-use Rattle.rules.specs.Lanes.{Spots}
 use Rattle.rules.specs.Kinds.{faces_of, kind_of}
 use Rattle.rules.specs.Sizes.{side_at, start, count}
 use Rattle.rules.specs.Cuts.{cut}
@@ -17,7 +15,7 @@ use Rattle.rules.specs.Packing.{packing_of}
 use Rattle.rules.specs.Pictures.{filled_of}
 use Rattle.rules.specs.Checks.{level_verdict_of, chain_verdict_of}
 use Rattle.rules.specs.Cross.{cross_width, cross_height, cross_of}
-use Rattle.rules.specs.Lanes.{Lanes, Wholes, Directions, lanes_of, rgb_lanes}
+use Rattle.rules.specs.Lanes.{Lanes, Wholes, Directions, Spot, Spots, lanes_of, rgb_lanes}
 use Rattle.rules.specs.Wrapping.{mode_of}
 use Rattle.rules.specs.Footprint.{mip_level_of}
 use Rattle.rules.specs.Places.{plane_of, nearest_rgb, nearest_alpha}
@@ -182,7 +180,7 @@ unfoldable pub ranges_leaves : ℕ → ℕ → ℕ → List ℕ → List ℕ →
 ranges_leaves kind w h l ranges =
     leaves (ranges_refusal kind w h (length l) (length ranges)) ranges (ranges_of w h l ++ drop (ranges_size w h) ranges)
 
--- replace_texel answers its refusal number alone, and leaves the new texel in level 0 and the tile's own range in the ranges
+-- replace_texel gives nothing, and leaves the new texel in level 0 and the tile's own range in the ranges
 unfoldable pub replace_leaves : ℕ → ℕ → ℕ → List ℕ → List ℕ → ℕ → ℕ → ℕ → List ℕ
 replace_leaves kind w h l ranges x y t =
     leaves (replace_refusal kind w h (length l) (length ranges) x y) l (replaced w l x y t)
