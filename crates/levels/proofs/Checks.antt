@@ -1,22 +1,20 @@
 -- The code of a level's verdict goes by what is right behind the level before, counted from there; the definition by places in the
 -- chain. Both are the same texels, since a level starts where the one before ends. Assumes nothing.
 use Rattle.std.specs.Prelude.{None, Some}
-use mathlib.Core.Path.{◌≡◌, refl, sym, ap, ◌∙◌}
+use mathlib.Core.Path.{◌≡◌, sym, ap, ◌∙◌}
 use mathlib.Core.Bool.{true, false}
 use mathlib.Core.List.{List}
 use Prim.Native.Nat.{ℕ, zero, suc, ◌+◌, ◌-◌, ◌*◌, ◌≤◌, ◌<◌}
-use native.Mathlib.Nat.{le_trans, zero-add, add-zero, add-suc}
+use native.Mathlib.Nat.{le_trans}
 use native.Mathlib.Numerals.{add-one}
 use native.Mathlib.Omega.{arith}
 use borrow.Author.Tests.{eq-eqb, ne_eqb}
 use lib.ListN.{length, get_or, take, drop, length-drop}
 use lib.Seq.{get_or-drop}
-use Rattle.rules.specs.declared.Packing.{Packing}
 use Rattle.rules.specs.Kinds.{faces_of}
 use Rattle.rules.specs.Sizes.{side_at, half, top, size_at, start, count}
 use Rattle.rules.specs.Levels.{next}
-use Rattle.rules.specs.Reducing.{reduce_of}
-use Rattle.rules.specs.Checks.{standing, right_at, level_verdict, levels_verdict, level_verdict_of, chain_verdict_of}
+use Rattle.rules.specs.Checks.{standing, right_at, level_verdict}
 use Rattle.rules.proofs.Sides.{side-pos, side-le, half-side, start-suc}
 use Rattle.rules.proofs.Refusing.{Chained}
 use Rattle.rules.proofs.Bounds.{faces-some, faces-most, top-most, level-end}

@@ -1,19 +1,24 @@
 -- The rows of the six faces of a cross: where each is read and where it goes, and that together they are the cross's faces. The
 -- faces are one picture of 6 * h rows, so row y is row y % h of face y / h. Assumes nothing.
-use mathlib.Core.Path.{◌≡◌}
+use mathlib.Core.Path.{◌≡◌, ap, ◌∙◌}
 use mathlib.Core.Bool.{Bool, true, false, cond}
 use mathlib.Core.List.{List, ◌++◌}
-use Prim.Native.Nat.{ℕ, ◌+◌, ◌*◌, ◌/◌, ◌%◌, ◌≤◌, ◌<◌}
-use native.Mathlib.Nat.{mul-le-mul, mul-le-mul_right, suc-mul, mod-lt, add_assoc}
+use Prim.Native.Nat.{ℕ, ◌+◌, ◌-◌, ◌*◌, ◌/◌, ◌%◌, ◌≤◌, ◌<◌}
+use native.Mathlib.Nat.{mul-le-mul, mul-le-mul_right, suc-mul, mod-lt}
 use native.Mathlib.Omega.{arith}
 use lib.Arith.{digits_lt, digits_div, digits_mod}
 use lib.Dec.{eqb}
-use lib.ListN.{length, drop}
-use Rattle.rules.specs.Levels.{grid}
+use lib.ListN.{length, get_or, take, drop, length-drop}
+use lib.Seq.{get_or-drop}
+use borrow.Author.Rules.{part_to_end}
+use borrow.Rule.Slice.PartMut.{put_mid}
+use Rattle.rules.specs.Levels.{tab, grid}
+use Rattle.rules.specs.Kinds.{rgba}
 use Rattle.rules.specs.Cross.{cross_width, cross_height, column_of, row_of, byte_texel, cross_of}
 use Rattle.rules.specs.Refusals.{cross_sides_refusal}
 use Rattle.rules.proofs.Refusing.{unless-none, Sides, sides-fact}
 use Rattle.kinds.specs.Runs.{over}
+use Rattle.reduce.proofs.Rows.{over_put, row_at, row-long}
 use Rattle.levels.specs.Crosses.{bytes_at, cross_cell}
 use Rattle.levels.proofs.Rows.{Rows, rows-first, rows-room, rows_more, rows_end, over-front}
 
@@ -48,6 +53,29 @@ column-lt f = go (eqb f 0) (eqb f 1) (eqb f 5)
     go false true c = omega arith
     go false false true = omega arith
     go false false false = omega arith
+
+-- texel x of the bytes behind the first `from`: its four bytes stand from `at` on
+pub bytes-behind : (from at x : ℕ) (bytes : List ℕ) → at ≡ from + x * 4
+    → bytes_at (take (length bytes - from) (drop from bytes)) x
+    ≡ rgba (get_or bytes at 0) (get_or bytes (at + 1) 0) (get_or bytes (at + 2) 0) (get_or bytes (at + 3) 0)
+unfolding bytes_at
+bytes-behind from at x bytes e =
+    let second : from + (x * 4 + 1) ≡ at + 1 = omega arith in
+    let third : from + (x * 4 + 2) ≡ at + 2 = omega arith in
+    let fourth : from + (x * 4 + 3) ≡ at + 3 = omega arith in
+    let read = λ (k : ℕ). get_or-drop from bytes k 0 in
+    rw (part_to_end bytes from, read (x * 4), read (x * 4 + 1), read (x * 4 + 2), read (x * 4 + 3), ← e, second, third, fourth)
+
+-- a part that was filled is a run
+pub over-filled : (at m : ℕ) (s part : List ℕ) (f : ℕ → ℕ) → at + m ≤ length s → part ≡ tab (length (row_at m at s)) f
+    → put_mid at (at + m - at) s part ≡ over at s m f
+over-filled at m s part f room e =
+    ap (λ (l : List ℕ). put_mid at (at + m - at) s l) (e ∙ ap (λ (n : ℕ). tab n f) (row-long m at s room)) ∙ over_put at m s f
+
+-- bytes enough for it lie behind texel `from`
+pub part-room : (at m from : ℕ) (s bytes : List ℕ) → at + m ≤ length s → (from + m) * 4 ≤ length bytes
+    → 4 * length (row_at m at s) ≤ length (take (length bytes - from * 4) (drop (from * 4) bytes))
+part-room at m from s bytes room read = rw (row-long m at s room, part_to_end bytes (from * 4), length-drop) (omega arith)
 
 -- y rows are written
 pub record FaceRows (w h : ℕ) (bytes old s : List ℕ) (y : ℕ) : Type 0 where
@@ -85,15 +113,18 @@ module _ {w h : ℕ} {bytes old s : List ℕ} {y : ℕ} (t : FaceRows w h bytes 
       }
 
   pub faces-more : {r k : ℕ} (u : List ℕ) → r ≡ row_of (y / cross_height h) → k ≡ column_of (y / cross_height h)
-      → u ≡ over (y * cross_width w) s (cross_width w) (λ x. bytes_at bytes ((r * cross_height h + y % cross_height h) * w + k * cross_width w + x))
+      → (let from = ((r * cross_height h + y % cross_height h) * w + k * cross_width w) * 4 in
+      u ≡ over (y * cross_width w) s (cross_width w) (bytes_at (take (length bytes - from) (drop from bytes))))
       → FaceRows w h bytes old u (y + 1)
   unfolding bytes_at cross_cell byte_texel
   faces-more {r} {k} u er ek eu =
+      let row = (r * cross_height h + y % cross_height h) * w in
+      let column = k * cross_width w in
       record {
         sides = t.sides;
         read = t.read;
         rows = rows_more t.rows lt _ u eu
-            (λ x l. rw (digits_div y l, digits_mod y l, ← er, ← ek, add_assoc ((r * cross_height h + y % cross_height h) * w) (k * cross_width w) x));
+            (λ x l. bytes-behind ((row + column) * 4) ((row + (column + x)) * 4) x bytes (omega arith) ∙ rw (digits_div y l, digits_mod y l, ← er, ← ek));
       }
 
 -- all rows

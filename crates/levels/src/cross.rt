@@ -4,11 +4,11 @@ ghost use Rattle.rules.specs.Cross.{cross_width, cross_height, column_of, row_of
 ghost use Rattle.rules.specs.Refusals.{cross_sides_refusal, cross_refusal};
 ghost use Rattle.rules.specs.Answers.{told, cross_answer, cross_leaves};
 ghost use Rattle.kinds.specs.Runs.{over};
-ghost use Rattle.levels.specs.Crosses.{bytes_at, cross_cell};
+ghost use Rattle.levels.specs.Crosses.{cross_cell};
 
+use crate::bytes::put_bytes;
 use crate::refusals::{check_room, sides_taken};
 use rules::Refusal;
-use texel::bytes::rgba;
 
 // A face's place in the cross, its column in faces: 2 0 1 1 1 3.
 fn column_of(face: usize) -> usize
@@ -57,26 +57,6 @@ fn check_cross(width: u32, height: u32, bytes: usize, faces: usize) -> Result<()
     check_room(6 * (h / 3) * (w / 4), faces)
 }
 
-// Texel i of a picture of bytes.
-fn bytes_at(i: usize, bytes: &[u8]) -> u32
-    requires { i * 4 + 4 ≤ length bytes.now }
-    ensures { result ≡ bytes_at bytes.now i }
-{
-    let at = i * 4;
-    rgba(bytes[at], bytes[at + 1], bytes[at + 2], bytes[at + 3])
-}
-
-// n texels of the bytes, from texel `from` on, put at `to`.
-fn put_bytes(n: usize, from: usize, bytes: &[u8], to: usize, faces: &mut [u32])
-    requires bytes_room { (from + n) * 4 ≤ length bytes.now }
-    requires faces_room { to + n ≤ length faces.old }
-    ensures { faces.new ≡ over to faces.old n (λ x. bytes_at bytes.now (from + x)) }
-{
-    for x in 0..n {
-        faces[to + x] = bytes_at(from + x, bytes);
-    }
-}
-
 // Writes the rows of the six faces one after the other; leftover columns and rows of the cross are ignored.
 fn write_faces(width: usize, height: usize, bytes: &[u8], faces: &mut [u32])
     requires sides { (4 ≤ width) × (width < 16388) × (3 ≤ height) × (height < 12291) }
@@ -90,7 +70,9 @@ fn write_faces(width: usize, height: usize, bytes: &[u8], faces: &mut [u32])
     for y in 0..rows {
         let face = y / h;
         let row = row_of(face) * h + y % h;
-        put_bytes(w, row * width + column_of(face) * w, bytes, y * w, faces);
+        let from = (row * width + column_of(face) * w) * 4;
+        let to = y * w;
+        put_bytes(&bytes[from..], &mut faces[to..to + w]);
     }
 }
 

@@ -1,6 +1,7 @@
 // Levels of a picture that lies in a lent buffer: their sizes, the chain and its check, the view, the cut and the cross.
 #![tactic(auto)]
 
+pub mod bytes;
 pub mod chain;
 pub mod check;
 pub mod cross;

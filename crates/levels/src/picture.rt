@@ -42,11 +42,7 @@ impl Picture {
     pub fn shape(self) -> Shape
         ensures { (result.faces ≡ faces_of (code_of self.kind)) × (result.width ≡ self.width) × (result.height ≡ self.height) }
     {
-        Shape::new(
-            self.kind.faces(),
-            self.width as usize,
-            self.height as usize,
-        )
+        Shape::new(self.kind.faces(), self.width as usize, self.height as usize)
     }
 
     // The shape of a level.

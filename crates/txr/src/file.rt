@@ -7,10 +7,10 @@ ghost use Rattle.levels.specs.Pictures.{IsPicture};
 ghost use Rattle.txr.specs.File.{word_at, marked, kind_in, width_in, height_in, header_in, texel_in, header_refusal, file_refusal, file_answer};
 
 use crate::Header;
+use levels::bytes::put_bytes;
 use levels::layout::Layout;
 use levels::picture::Picture;
 use rules::Refusal;
-use texel::bytes::rgba;
 
 // The 16-bit number at byte i, little-endian.
 fn word_at(input: &[u8], i: usize) -> u32
@@ -89,21 +89,10 @@ pub fn parse(input: &[u8]) -> Result<Header, Refusal>
     Ok(header(input))
 }
 
-// Texel i of level 0.
-fn texel(input: &[u8], i: usize) -> u32
-    requires { 14 + 4 * i ≤ length input.now }
-    ensures { result ≡ texel_in input.now i }
-{
-    let at = 10 + 4 * i;
-    rgba(input[at], input[at + 1], input[at + 2], input[at + 3])
-}
-
 // The texels of level 0.
 pub fn load(input: &[u8], texels: &mut [u32])
     requires { 10 + 4 * length texels.old ≤ length input.now }
     ensures { texels.new ≡ tab (length texels.old) (texel_in input.now) }
 {
-    for (i, place) in texels.iter_mut().enumerate() {
-        *place = texel(input, i);
-    }
+    put_bytes(&input[10..], texels);
 }

@@ -2,7 +2,7 @@ use mathlib.Core.Path.{refl}
 use Prim.Native.Nat.{◌/◌}
 use native.Mathlib.Omega.{arith}
 use Rattle.rules.specs.Cross.{cross_height, column_of}
-use Rattle.levels.proofs.Crosses.{FaceRow, faces-first, faces-place, faces-more, faces-end}
+use Rattle.levels.proofs.Crosses.{FaceRow, faces-first, faces-place, faces-more, faces-end, over-filled, part-room}
 use Rattle.levels.proofs.cross.write_faces.Goals as goal
 use Rattle.levels.proofs.cross.write_faces.Goals.{After-column_of, After-row_of}
 
@@ -33,8 +33,8 @@ nonzero_rem-row c = omega arith
 pub overflow_add-row : goal.overflow_add-row
 overflow_add-row c = omega (arith, row c)
 
-pub overflow_mul-row-in-loop-y : goal.overflow_mul-row-in-loop-y
-overflow_mul-row-in-loop-y c = omega (arith, row c)
+pub overflow_mul-from : goal.overflow_mul-from
+overflow_mul-from c = omega (arith, row c)
 
 place : (c : goal.After-column_of)
     → let a = c.args in
@@ -42,23 +42,36 @@ place : (c : goal.After-column_of)
 place c =
     faces-place c.loop-y.invariant c.loop-y-test.true c.row_of.ensures c.column_of.ensures
 
-pub overflow_mul-column_of : goal.overflow_mul-column_of
-overflow_mul-column_of c = omega (arith, place c)
+pub overflow_mul-from-in-loop-y : goal.overflow_mul-from-in-loop-y
+overflow_mul-from-in-loop-y c = omega (arith, place c)
 
-pub overflow_add-row-in-loop-y : goal.overflow_add-row-in-loop-y
-overflow_add-row-in-loop-y c = omega (arith, place c)
+pub overflow_add-from : goal.overflow_add-from
+overflow_add-from c = omega (arith, place c)
 
-pub overflow_mul-y : goal.overflow_mul-y
-overflow_mul-y c = omega (arith, place c)
+pub overflow_mul-from-in-loop-y-2 : goal.overflow_mul-from-in-loop-y-2
+overflow_mul-from-in-loop-y-2 c = omega (arith, place c)
+
+pub slice_bounds-put_bytes-count : goal.slice_bounds-put_bytes-count
+slice_bounds-put_bytes-count c = omega (arith, place (goal.at.slice_bounds-put_bytes-count c).After-column_of, c.requires)
+
+pub slice_bounds-put_bytes-start : goal.slice_bounds-put_bytes-start
+slice_bounds-put_bytes-start c = omega (arith, place (goal.at.slice_bounds-put_bytes-start c).After-column_of, c.requires)
+
+pub slice_bounds-put_bytes-end-in-loop-y : goal.slice_bounds-put_bytes-end-in-loop-y
+slice_bounds-put_bytes-end-in-loop-y c =
+    omega (arith, place (goal.at.slice_bounds-put_bytes-end-in-loop-y c).After-column_of, c.loop-y.invariant.rows.run.as_long)
 
 pub put_bytes-requires : goal.put_bytes-requires
 put_bytes-requires c =
     let p = place (goal.at.put_bytes-requires c).After-column_of in
-    record { bytes_room = omega (arith, p); faces_room = omega (arith, p) }
+    part-room _ _ _ c.loop-y.faces c.args.bytes.now (omega (arith, p, c.loop-y.invariant.rows.run.as_long)) (omega (arith, p, c.loop-y.invariant.read))
 
 pub loop-y-preserved : goal.loop-y-preserved
 loop-y-preserved c =
-    faces-more c.loop-y.invariant c.loop-y-test.true _ c.row_of.ensures c.column_of.ensures c.put_bytes.ensures
+    let t = c.loop-y.invariant in
+    let p = place (goal.at.loop-y-preserved c).After-column_of in
+    faces-more t c.loop-y-test.true _ c.row_of.ensures c.column_of.ensures
+    (over-filled _ _ c.loop-y.faces _ _ (omega (arith, p, t.rows.run.as_long)) c.put_bytes.ensures)
 
 pub shape_of-faces : goal.shape_of-faces
 shape_of-faces c = c.loop-y.invariant.rows.run.as_long

@@ -1,5 +1,4 @@
 -- `levels::cross::write_faces` meets its contract. The invariant: y rows are written.
-use Prim.Native.Nat.{◌*◌, ◌-◌}
 use Rattle.levels.proofs.Crosses.{FaceRows}
 use Rattle.levels.proofs.cross.write_faces.Given as goal
 

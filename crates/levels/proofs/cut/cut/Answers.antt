@@ -1,6 +1,5 @@
 -- `levels::cut::cut` meets its contract: past the test both buffers have room, and the run is the cut.
 use mathlib.Core.Path.{sym, ◌∙◌}
-use native.Mathlib.Omega.{arith}
 use lib.ListN.{length}
 use Rattle.rules.specs.Answers.{cut_leaves}
 use Rattle.rules.proofs.Answering.{told_none}

@@ -1,5 +1,4 @@
 -- `levels::cut::write_cut` meets its contract. The invariant: y rows are written.
-use Prim.Native.Nat.{◌-◌}
 use Rattle.levels.proofs.Cuts.{CutRows}
 use Rattle.levels.proofs.cut.write_cut.Given as goal
 

@@ -1,9 +1,9 @@
 -- `levels::view::face_of` meets its contract: a face of a level ends within the chain.
-use mathlib.Core.Path.{◌≡◌, refl, sym, ap, ◌∙◌}
+use mathlib.Core.Path.{◌≡◌}
 use Prim.Native.Nat.{◌+◌, ◌*◌, ◌≤◌}
 use native.Mathlib.Nat.{le_trans}
 use native.Mathlib.Omega.{arith}
-use Rattle.rules.specs.Kinds.{faces_of, code_of}
+use Rattle.rules.specs.Kinds.{faces_of}
 use Rattle.rules.specs.Sizes.{side_at, start}
 use Rattle.rules.specs.Places.{plane_of}
 use Rattle.rules.specs.View.{face_start}

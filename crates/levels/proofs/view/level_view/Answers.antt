@@ -1,7 +1,6 @@
 -- `levels::view::level_view` meets its contract: the part that is handed out is the face.
-use mathlib.Core.Path.{◌≡◌, refl, sym, ap, ◌∙◌}
+use mathlib.Core.Path.{sym, ◌∙◌}
 use native.Mathlib.Nat.{add-sub_cancel_left}
-use native.Mathlib.Omega.{arith}
 use Rattle.rules.specs.View.{face_view}
 use Rattle.rules.specs.Answers.{view_answer}
 use Rattle.rules.proofs.Answering.{told_none, leaves_as}

@@ -1,17 +1,12 @@
-use mathlib.Core.Path.{refl, ◌∙◌}
+-- `txr::file::load`: the bytes behind the header are the texels of level 0.
+use mathlib.Core.Path.{◌∙◌}
+use Prim.Native.Nat.{◌+◌, ◌*◌}
 use native.Mathlib.Omega.{arith}
-use native.Mathlib.Numerals.{add-one}
-use Rattle.std.proofs.lemmas.List.{take_more_set}
-use Rattle.rules.specs.Levels.{tab}
-use Rattle.rules.proofs.Grid.{tab-suc}
+use Rattle.rules.proofs.Grid.{tab-ext}
+use Rattle.levels.proofs.Crosses.{bytes-behind}
+use Rattle.txr.specs.File.{texel_in}
 use Rattle.txr.proofs.file.load.Goals as goal
 
-pub loop-i-init : goal.loop-i-init
-unfolding tab
-loop-i-init c = refl
-
-pub loop-i-preserved : goal.loop-i-preserved
-loop-i-preserved c =
-    let turn = c.loop-i in
-    take_more_set turn.texels turn.i c.texel.result (omega arith)
-    ∙ rw (turn.invariant, c.texel.ensures, add-one turn.i, tab-suc turn.i)
+pub returns : goal.returns
+unfolding texel_in
+returns c = c.put_bytes.ensures ∙ tab-ext _ _ _ (λ i lt. bytes-behind 10 (10 + 4 * i) i c.args.input.now (omega arith))

@@ -1,6 +1,5 @@
 -- `levels::picture::Picture::new` meets its contract: what is not refused has a kind that is known, and sides that are taken.
-use mathlib.Core.Path.{◌≡◌, sym, ap, ◌∙◌, refl}
-use native.Mathlib.Omega.{arith}
+use mathlib.Core.Path.{sym, ap, ◌∙◌, refl}
 use Rattle.rules.specs.Kinds.{code_of}
 use Rattle.rules.proofs.Bounds.{faces-some, faces-most}
 use Rattle.rules.proofs.Refusing.{kind-facts, kind_coded, sides-facts}

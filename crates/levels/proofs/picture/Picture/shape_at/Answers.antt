@@ -1,6 +1,5 @@
 -- `levels::picture::Picture::shape_at` meets its contract: a level's sides are at least 1, and at most level 0's.
 use native.Mathlib.Omega.{arith}
-use Rattle.rules.specs.Kinds.{code_of}
 use Rattle.rules.proofs.Sides.{side-pos, side-le}
 use Rattle.levels.proofs.picture.Picture.shape_at.Goals as goal
 

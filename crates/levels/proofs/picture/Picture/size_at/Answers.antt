@@ -1,9 +1,8 @@
 -- `levels::picture::Picture::size_at` meets its contract: no product wraps.
-use native.Mathlib.Nat.{mul-le-mul}
 use native.Mathlib.Omega.{arith}
 use Rattle.rules.specs.Kinds.{faces_of, code_of}
 use Rattle.rules.specs.Sizes.{size_at}
-use Rattle.levels.proofs.Starts.{side-most, size-most}
+use Rattle.levels.proofs.Starts.{size-most}
 use Rattle.levels.proofs.picture.Picture.size_at.Goals as goal
 
 pub returns : goal.returns

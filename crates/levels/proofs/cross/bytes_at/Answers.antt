@@ -1,7 +1,0 @@
--- `levels::cross::bytes_at` meets its contract: the same four bytes.
-use Rattle.levels.specs.Crosses.{bytes_at}
-use Rattle.levels.proofs.cross.bytes_at.Goals as goal
-
-pub returns : goal.returns
-unfolding bytes_at
-returns c = c.rgba.ensures
