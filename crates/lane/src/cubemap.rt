@@ -53,7 +53,6 @@ impl<'a> Cube<'a> {
     }
 
     // Where four do.
-    #[inline(always)]
     #[tactic(auto, unfolding(crate::specs::Cubes::cube_four))]
     pub fn places(self, s: Spots, levels: Wholes) -> Four<usize>
         requires { AllOnCube s × Below (suc (top self.layout.now.picture.width self.layout.now.picture.height)) levels }

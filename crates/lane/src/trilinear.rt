@@ -13,7 +13,6 @@ use places::cube::{lerp, pairing};
 use rules::{Directions, Four, Lanes, Pairing, Spots, Wholes};
 
 // The two levels of four lanes' fractional levels, and how far each lane lies between its two.
-#[inline(always)]
 #[tactic(auto, unfolding(crate::specs::Cubes::two_levels))]
 pub fn two_levels(levels: Lanes, top: usize) -> Pairing<Wholes, Lanes>
     requires { EachLane finite levels × (top ≤ 12) }
@@ -28,7 +27,6 @@ pub fn two_levels(levels: Lanes, top: usize) -> Pairing<Wholes, Lanes>
 }
 
 // Where four lanes read, at the lower levels and at the upper ones.
-#[inline(always)]
 pub fn level_places(cube: Cube, s: Spots, m: Pairing<Wholes, Lanes>) -> Pairing<Four<usize>, Lanes>
     requires { AllOnCube s × Below (suc (top cube.layout.now.picture.width cube.layout.now.picture.height)) m.low × Below (suc (top cube.layout.now.picture.width cube.layout.now.picture.height)) m.high }
     ensures { result ≡ record { low = cube_four cube.entry.layout.now.picture.width cube.entry.layout.now.picture.height s m.low; high = cube_four cube.entry.layout.now.picture.width cube.entry.layout.now.picture.height s m.high; part = m.part } }
