@@ -23,7 +23,7 @@ impl Picture {
     ghost use Rattle.rules.specs.Answers.{done, told};
     ghost use Rattle.levels.specs.Pictures.{IsPicture};
 
-    // 1, 2: the kind, then the sides.
+    // 1, 2: the kind, then the sides. A code, as every call is handed one.
     #[tactic(auto, using(rules::proofs::Answering::answer_or, rules::proofs::Answering::answer_as), unfolding(rules::specs::Refusals::picture_refusal))]
     pub fn new(kind: u32, width: u32, height: u32) -> Result<Picture, Refusal>
         ensures told { done result ≡ told (picture_refusal kind width height) }

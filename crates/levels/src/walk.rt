@@ -16,7 +16,7 @@ struct Walk {
     side: u32,
 }
 
-// Walks the levels up to the first whose smaller side is 1: halving alone gives their sides.
+// Walks the levels up to the first whose smaller side is 1: halving alone gives their sides. A while: it ends where the halved side is 0.
 fn walk_both(faces: u32, small: u32, large: u32, starts: &mut [u32]) -> Walk
     requires { Sides faces small large × (small ≤ large) × (13 ≤ length starts.old) }
     ensures narrow { side_at result.level small ≡ 1 }
@@ -36,7 +36,7 @@ fn walk_both(faces: u32, small: u32, large: u32, starts: &mut [u32]) -> Walk
     Walk { level, at, side }
 }
 
-// Walks all levels: above those of `walk_both` the smaller side stays 1.
+// Walks all levels: above those of `walk_both` the smaller side stays 1. A while for the same reason.
 fn walk_all(faces: u32, small: u32, large: u32, starts: &mut [u32]) -> u32
     requires { Sides faces small large × (small ≤ large) × (13 ≤ length starts.old) }
     ensures total { result ≡ count faces small large }
@@ -56,8 +56,7 @@ fn walk_all(faces: u32, small: u32, large: u32, starts: &mut [u32]) -> u32
 }
 
 // Writes the starts of a picture's levels in their order, and answers the whole chain's texels.
-pub fn starts_of(picture: Picture, starts: &mut [u32]) -> u32
-    requires { 13 ≤ length starts.old }
+pub fn starts_of(picture: Picture, starts: &mut [u32; 13]) -> u32
     ensures total { result ≡ count (faces_of (code_of picture.kind)) picture.width picture.height }
     ensures leaves { starts.new ≡ over 0 starts.old (top picture.width picture.height + 1) (start (faces_of (code_of picture.kind)) picture.width picture.height) }
 {

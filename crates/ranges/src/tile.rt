@@ -37,6 +37,7 @@ fn tile_side(side: u32, i: u32) -> u32
 // A picture that is no cubemap, and its level 0.
 #[derive(Clone, Copy)]
 pub struct Level0<'a> {
+    // A code, as `cut` takes one.
     pub kind: u32,
     pub width: u32,
     pub height: u32,

@@ -1,4 +1,5 @@
-// A texel's four bytes: red in the top byte, then green, blue, alpha.
+// A texel's four bytes: red in the top byte, then green, blue, alpha. Four functions and no place in an array: each is handed on as the
+// channel that it is.
 ghost use Rattle.std.specs.Prelude.{◌≡◌};
 ghost use Rattle.rules.specs.Kinds.{red_of, green_of, blue_of, alpha_of, rgba};
 

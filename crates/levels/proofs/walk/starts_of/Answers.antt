@@ -7,7 +7,7 @@ use Rattle.levels.proofs.walk.starts_of.Goals as goal
 pub walk_all-requires : goal.walk_all-requires
 walk_all-requires c =
     let p = c.args.picture in
-    (rw c.faces.ensures (ordered-sides _ _ _ c.min.ensures c.max.ensures p.sides), omega (arith, c.min.ensures, c.max.ensures), c.requires)
+    (rw c.faces.ensures (ordered-sides _ _ _ c.min.ensures c.max.ensures p.sides), omega (arith, c.min.ensures, c.max.ensures), omega arith)
 
 pub returns : goal.returns
 returns c =
