@@ -1,13 +1,12 @@
 // The lighting coefficients: asked as a record says, and the answer compared.
-use crate::answers::floats_agree;
-use crate::words::Record;
+use crate::answers::agrees;
+use crate::words::{Record, bits};
 use station::light;
 
 // Call 15.
-pub fn irradiance_sh4_agrees(record: &Record, texels: &[u32]) -> bool {
+pub fn irradiance_sh4_agrees(record: &Record, texels: &mut [u32]) -> bool {
+    let [_, _, kind, width, height, ..] = *record;
     let mut sh = [0.0f32; 12];
-    let refusal = light::swathecold_irradiance_sh4(
-        record[2], record[3], record[4], texels, &mut sh,
-    );
-    floats_agree(record, refusal, &sh)
+    let refusal = light::swathecold_irradiance_sh4(kind, width, height, texels, &mut sh);
+    agrees(record, refusal, &sh.map(bits), 0)
 }

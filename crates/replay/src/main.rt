@@ -18,15 +18,12 @@ use std::io::{ErrorKind, Read, Write};
 use std::{fs, io};
 use words::Record;
 
-// Reads the next record, or the head, which is as long; false where the list ends.
-fn read_record<R: Read>(reader: &mut R, record: &mut Record) -> io::Result<bool> {
+// Reads the next record, or the head, which is as long; none where the list ends.
+fn read_record<R: Read>(reader: &mut R) -> io::Result<Option<Record>> {
     let mut bytes = [0u8; 144];
     match reader.read_exact(&mut bytes) {
-        Ok(()) => {
-            *record = words::words(&bytes);
-            Ok(true)
-        }
-        Err(e) if e.kind() == ErrorKind::UnexpectedEof => Ok(false),
+        Ok(()) => Ok(Some(words::words(&bytes))),
+        Err(e) if e.kind() == ErrorKind::UnexpectedEof => Ok(None),
         Err(e) => Err(e),
     }
 }
@@ -38,48 +35,48 @@ fn print<W: Write>(number: u32, writer: &mut W) -> io::Result<()>
     write!(writer, "{number}")
 }
 
-// Asks a record's call and answers 1 where it agrees, else 0. The first eight that do not are named.
-fn agreed_one<W: Write>(record: &Record, number: u32, wrong: u32, writer: &mut W) -> io::Result<u32>
-    ensures { IfOk result (λ agreed. agreed ≤ 1) }
-{
-    if asks::record_agrees(record) {
-        return Ok(1);
-    }
-    if wrong < 8 {
+// Whether the unit answers as a record says. The first eight records of which it does not are named.
+fn agreed_one<W: Write>(
+    record: &Record,
+    number: u32,
+    wrong: u32,
+    writer: &mut W,
+) -> io::Result<bool> {
+    let agreed = asks::record_agrees(record);
+    if !agreed && wrong < 8 {
         writer.write_all(b"record ")?;
         print(number, writer)?;
         writer.write_all(b" does not agree\n")?;
     }
-    Ok(0)
+    Ok(agreed)
 }
 
 // Replays so many records, or as many as there are, and answers how many agree.
 fn replay<R: Read, W: Write>(reader: &mut R, count: u32, writer: &mut W) -> io::Result<u32>
     ensures { IfOk result (λ agreed. agreed ≤ count) }
 {
-    let mut record = [0u32; 36];
     let mut agreed = 0u32;
     for number in 0..count {
-        if !read_record(reader, &mut record)? {
+        let Some(record) = read_record(reader)? else {
             break;
-        }
-        agreed += agreed_one(&record, number, number - agreed, writer)?;
+        };
+        agreed += u32::from(agreed_one(&record, number, number - agreed, writer)?);
     }
     Ok(agreed)
 }
 
 // Replays a list that is open, where its head is one: the mark SWAN, version 1, 36 words a record.
 fn replay_list<R: Read, W: Write>(reader: &mut R, writer: &mut W) -> io::Result<()> {
-    let mut head = [0u32; 36];
-    let is_whole = read_record(reader, &mut head)?;
-    if !is_whole || head[0] != 0x4E415753 || head[1] != 1 || head[3] != 36 {
-        return writer.write_all(b"not a list of answers\n");
+    match read_record(reader)? {
+        Some(head) if head[0] == 0x4E415753 && head[1] == 1 && head[3] == 36 => {
+            let agreed = replay(reader, head[2], writer)?;
+            print(agreed, writer)?;
+            writer.write_all(b" of ")?;
+            print(head[2], writer)?;
+            writer.write_all(b" agree\n")
+        }
+        _ => writer.write_all(b"not a list of answers\n"),
     }
-    let agreed = replay(reader, head[2], writer)?;
-    print(agreed, writer)?;
-    writer.write_all(b" of ")?;
-    print(head[2], writer)?;
-    writer.write_all(b" agree\n")
 }
 
 fn main(rt: HostRuntime) -> io::Result<()> {

@@ -1,104 +1,72 @@
-// What the buffers hold before a call, by a record's seed, and the sum over a buffer after it. No buffer is longer than 8192.
-ghost use Rattle.std.specs.Prelude.{◌≡◌, ◌≤◌, ◌<◌, length};
-ghost use Rattle.std.specs.Counts.{IsPrefixLen};
+// What the buffers hold before a call, by a record's seed, and the sum over a buffer after it.
+ghost use Rattle.std.specs.Prelude.{◌<◌};
 
-use crate::words::{Record, wide};
+use crate::words::Record;
 
-// Room for a buffer.
-pub type Texels = [u32; 8192];
+// The texels or bytes of the longest buffer of the list.
+pub const ROOM: usize = 8192;
 
-// The next number of a stream: 48271 times the last one, modulo 2^31 - 1.
-fn next(number: u64) -> u64
-    requires { number < 4294967296 }
-    ensures { result < 4294967296 }
-{
-    number * 48271 % 2147483647
+// What a buffer that is only written holds before.
+pub const BEFORE: u32 = 0xC5C55C5C;
+
+// The numbers of a seed.
+#[derive(Drop)]
+struct Stream {
+    last: u64,
+    ghost small: { last < 4294967296 },
 }
 
-// A texel of two numbers of the stream, the first above.
-fn texel(above: u64, below: u64) -> u32 {
-    (above % 65536 * 65536 + below % 65536) as u32
-}
-
-// The first n texels of a seed.
-fn texels_of_seed(seed: u32, n: usize) -> Texels
-    requires { n ≤ 8192 }
-    ensures { 8192 ≡ length result }
-{
-    let mut texels = [0u32; 8192];
-    let mut number = seed as u64;
-    for i in 0..n {
-        let above = next(number);
-        number = next(above);
-        texels[i] = texel(above, number);
+impl Stream {
+    fn of(seed: u32) -> Self {
+        Stream { last: seed as u64 }
     }
-    texels
-}
 
-// The texels that stand in a record, in words 6 to 21; behind them all are 0.
-fn texels_written(record: &Record) -> Texels
-    ensures { 8192 ≡ length result }
-{
-    let mut texels = [0u32; 8192];
-    for i in 0..16 {
-        texels[i] = record[6 + i];
+    // The next number: 48271 times the last one, modulo 2^31 - 1.
+    fn number(&mut self) -> u64 {
+        self.last = self.last * 48271 % 2147483647;
+        self.last
     }
-    texels
+
+    // A texel of two numbers, the first above.
+    fn texel(&mut self) -> u32 {
+        let above = self.number() % 65536;
+        let below = self.number() % 65536;
+        (above * 65536 + below) as u32
+    }
+
+    fn byte(&mut self) -> u8 {
+        (self.number() % 256) as u8
+    }
 }
 
-// The n texels that a record's call is lent. Seed 0: they stand in the record.
-pub fn texels_of(record: &Record, n: usize) -> Texels
-    requires { n ≤ 8192 }
-    ensures { IsPrefixLen n result }
-{
+// Fills the buffer that a record's call is lent, which is 0 before. Seed 0: its texels stand in the record, in words 6 to 21.
+pub fn fill_texels(record: &Record, texels: &mut [u32]) {
     if record[1] == 0 {
-        texels_written(record)
+        for (texel, word) in texels.iter_mut().zip(&record[6..22]) {
+            *texel = *word;
+        }
     } else {
-        texels_of_seed(record[1], n)
+        let mut stream = Stream::of(record[1]);
+        for texel in texels {
+            *texel = stream.texel();
+        }
     }
 }
 
-// The n bytes of a cross or of ranges, of a seed.
-pub fn bytes_of(seed: u32, n: usize) -> [u8; 8192]
-    requires { n ≤ 8192 }
-    ensures { IsPrefixLen n result }
-{
-    let mut bytes = [0u8; 8192];
-    let mut number = seed as u64;
-    for i in 0..n {
-        number = next(number);
-        bytes[i] = (number % 256) as u8;
-    }
-    bytes
-}
-
-// The n texels of a buffer that is only written, as they are before: C5C55C5C.
-pub fn texels_before(n: usize) -> Texels
-    requires { n ≤ 8192 }
-    ensures { IsPrefixLen n result }
-{
-    [0xC5C55C5C; 8192]
-}
-
-// A sum with one more texel or byte: 65599 times the sum, and the texel, modulo 2^32 - 5.
-fn with_texel(sum: u32, texel: u32) -> u32 {
-    ((sum as u64 * 65599 + texel as u64) % 4294967291) as u32
-}
-
-// The sum over a whole buffer of texels, from 1.
-pub fn sum_of(texels: &[u32]) -> u32 {
-    let mut sum = 1u32;
-    for texel in texels {
-        sum = with_texel(sum, *texel);
-    }
-    sum
-}
-
-// The sum over a whole buffer of bytes, from 1.
-pub fn sum_of_bytes(bytes: &[u8]) -> u32 {
-    let mut sum = 1u32;
+// Fills a cross or ranges.
+pub fn fill_bytes(record: &Record, bytes: &mut [u8]) {
+    let mut stream = Stream::of(record[1]);
     for byte in bytes {
-        sum = with_texel(sum, wide(*byte));
+        *byte = stream.byte();
+    }
+}
+
+// The sum over a whole buffer, from 1: with each texel or byte 65599 times the sum, and it, modulo 2^32 - 5.
+pub fn sum_of<T: Copy + Into<u32>>(buffer: &[T]) -> u32 {
+    let mut sum = 1u32;
+    for item in buffer {
+        let item: u32 = (*item).into();
+        sum = ((sum as u64 * 65599 + item as u64) % 4294967291) as u32;
     }
     sum
 }

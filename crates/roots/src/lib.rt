@@ -11,10 +11,9 @@ use texel::root::sqrt;
 pub extern "C" fn swathecold_root(x: f32) -> f32
     ensures { result ≡ root_alone x }
 {
-    if 0.0 <= x {
-        if x <= 3.4028235e38 {
-            return sqrt(x);
-        }
+    if 0.0 <= x && x <= f32::MAX {
+        sqrt(x)
+    } else {
+        x
     }
-    x
 }
