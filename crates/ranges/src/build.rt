@@ -9,11 +9,11 @@ use rules::Refusal;
 
 // Writes the range of every tile.
 fn write_tiles(level: Level0<'_>, ranges: &mut [u8])
-    requires { ranges_size level.width level.height ≤ length ranges.old }
-    ensures { ranges.new ≡ ranges_of level.entry.width level.entry.height level.entry.texels.now ++ drop (ranges_size level.entry.width level.entry.height) ranges.old }
+    requires { ranges_size level.picture.width level.picture.height ≤ length ranges.old }
+    ensures { ranges.new ≡ ranges_of level.entry.picture.width level.entry.picture.height level.entry.texels.now ++ drop (ranges_size level.entry.picture.width level.entry.picture.height) ranges.old }
 {
-    let across = tiles(level.width);
-    for n in 0..tiles(level.height) * across {
+    let across = tiles(level.picture.width);
+    for n in 0..tiles(level.picture.height) * across {
         level.write_tile(n % across, n / across, ranges);
     }
 }
@@ -30,13 +30,7 @@ pub fn build_ranges(
     ensures answer { result ≡ ranges_answer kind width height texels.now ranges.old }
     ensures leaves { ranges.new ≡ ranges_leaves kind width height texels.now ranges.old }
 {
-    check_ranges(kind, width, height, texels.len(), ranges.len())?;
-    let level = Level0 {
-        kind,
-        width,
-        height,
-        texels,
-    };
-    write_tiles(level, ranges);
-    Ok(ranges_size(width, height))
+    let picture = check_ranges(kind, width, height, texels.len(), ranges.len())?;
+    write_tiles(Level0 { picture, texels }, ranges);
+    Ok(ranges_size(picture.width, picture.height))
 }

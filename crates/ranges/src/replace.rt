@@ -23,15 +23,10 @@ pub fn replace_texel(
     ensures texels { texels.new ≡ replace_leaves kind width height texels.old ranges.old x y texel }
     ensures ranges { ranges.new ≡ replace_ranges_leaves kind width height texels.old ranges.old x y texel }
 {
-    check_replace(kind, width, height, texels.len(), ranges.len(), x, y)?;
+    let picture = check_replace(kind, width, height, texels.len(), ranges.len(), x, y)?;
     let at = (y as usize) * (width as usize) + (x as usize);
     texels[at] = texel;
-    let level = Level0 {
-        kind,
-        width,
-        height,
-        texels,
-    };
+    let level = Level0 { picture, texels };
     level.write_tile(x / 16, y / 16, ranges);
     Ok(())
 }

@@ -39,17 +39,27 @@ impl Stream {
     }
 }
 
+// Copies as many as there are in both.
+fn copy_texels(words: &[u32], texels: &mut [u32]) {
+    for (texel, word) in texels.iter_mut().zip(words) {
+        *texel = *word;
+    }
+}
+
+// Fills with the texels of a seed.
+fn draw_texels(seed: u32, texels: &mut [u32]) {
+    let mut stream = Stream::of(seed);
+    for texel in texels {
+        *texel = stream.texel();
+    }
+}
+
 // Fills the buffer that a record's call is lent, which is 0 before. Seed 0: its texels stand in the record, in words 6 to 21.
 pub fn fill_texels(record: &Record, texels: &mut [u32]) {
     if record[1] == 0 {
-        for (texel, word) in texels.iter_mut().zip(&record[6..22]) {
-            *texel = *word;
-        }
+        copy_texels(&record[6..22], texels);
     } else {
-        let mut stream = Stream::of(record[1]);
-        for texel in texels {
-            *texel = stream.texel();
-        }
+        draw_texels(record[1], texels);
     }
 }
 

@@ -3,8 +3,8 @@ ghost use Rattle.std.specs.Prelude.{◌≡◌};
 ghost use Rattle.rules.specs.Refusals.{number_in};
 ghost use Rattle.station.specs.Written.{handed, number_words, sizes_words, verdict_words, four_words, colour_words, uv_words, faces_words, light_words, part_words};
 
-use levels::view::Face;
 use rules::{Directions, Four, LevelSizes, Refusal, Sh4, Spots};
+use texture::Face;
 
 // What is handed out for a value.
 pub trait Words<W> {
