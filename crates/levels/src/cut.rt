@@ -11,6 +11,7 @@ use crate::refusals::check_room;
 use rules::{Pair, Refusal};
 
 // n is a multiple of 2^order.
+#[tactic(auto, using(crate::proofs::Cuts::one_shl), unfolding(rules::specs::Cuts::aligned))]
 fn multiple(order: u32, n: u32) -> bool
     requires { order ≤ 12 }
     ensures { result ≡ aligned order n }
