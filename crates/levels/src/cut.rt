@@ -37,10 +37,8 @@ fn along(order: u32, side: u32, corner: u32, part: u32) -> bool
 fn check_place(order: u32, picture: Picture, corner: Pair, sides: Pair) -> Result<(), Refusal>
     ensures { result ≡ told (cut_refusal order picture.width picture.height corner sides) }
 {
-    if 12 < order {
-        return Err(Refusal::CutOutside);
-    }
-    if along(order, picture.width, corner.x, sides.x)
+    if order <= 12
+        && along(order, picture.width, corner.x, sides.x)
         && along(order, picture.height, corner.y, sides.y)
     {
         Ok(())
