@@ -3,24 +3,18 @@ ghost use Rattle.std.specs.Prelude.{◌≡◌};
 ghost use Rattle.rules.proofs.RefusingLookups.{Coordinates};
 ghost use Rattle.lane.specs.Reading.{nearest_four};
 
-use crate::reading::places;
+use crate::reading::{first_faces, places};
 use places::axis::nearest_four;
 use places::place::Level;
 use places::wrap::Wrapping;
-use rules::{Four, Lanes, Wholes};
+use rules::{Four, Lanes};
 
 // The places of four lanes, all on the first face.
 pub fn nearest_places(on: Level, by: Wrapping, u: Lanes, v: Lanes) -> Four<usize>
     requires { Coordinates u v }
     ensures { result ≡ nearest_four on.plane by.s by.t u v }
 {
-    let first = Wholes {
-        a: 0,
-        b: 0,
-        c: 0,
-        d: 0,
-    };
     let x = nearest_four(by.s, u, on.plane.width);
     let y = nearest_four(by.t, v, on.plane.height);
-    places(on, first, x, y)
+    places(on, first_faces(), x, y)
 }

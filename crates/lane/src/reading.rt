@@ -7,6 +7,18 @@ use choice::lanes::{each, pairs};
 use places::place::Level;
 use rules::{Four, Wholes};
 
+// The first face, in each lane.
+pub fn first_faces() -> Wholes
+    ensures { result ≡ record { a = 0; b = 0; c = 0; d = 0 } }
+{
+    Wholes {
+        a: 0,
+        b: 0,
+        c: 0,
+        d: 0,
+    }
+}
+
 // Each lane's texel (x, y) on its own face.
 #[tactic(auto, unfolding(crate::specs::Reading::places_of))]
 pub fn places(on: Level, faces: Wholes, x: Wholes, y: Wholes) -> Four<usize>

@@ -4,7 +4,6 @@ ghost use Rattle.std.specs.Float.Ieee.Scale.{finite};
 ghost use Rattle.rules.specs.Sizes.{top};
 ghost use Rattle.rules.proofs.RefusingLookups.{EachLane};
 ghost use Rattle.places.specs.Sized.{Below};
-ghost use Rattle.places.specs.Spots.{OnCube};
 ghost use Rattle.lane.specs.Cubes.{AllOnCube, cube_four, two_levels, lerp_lanes, lerp_colours};
 
 use crate::cubemap::Cube;

@@ -6,6 +6,7 @@ ghost use Rattle.levels.specs.Crosses.{bytes_at};
 use texel::bytes::rgba;
 
 // Texel i of a picture of bytes.
+#[tactic(auto, unfolding(crate::specs::Crosses::bytes_at))]
 fn bytes_at(i: usize, bytes: &[u8]) -> u32
     requires { i * 4 + 4 ≤ length bytes.now }
     ensures { result ≡ bytes_at bytes.now i }

@@ -3,38 +3,36 @@
 ghost use Rattle.std.specs.Prelude.{◌≡◌, ◌+◌, ◌≤◌, length};
 ghost use Rattle.rules.specs.Kinds.{faces_of, code_of};
 ghost use Rattle.rules.specs.Sizes.{top, count};
-ghost use Rattle.rules.specs.Reducing.{reduce_of};
 ghost use Rattle.rules.specs.Checks.{level_verdict_of, chain_verdict_of};
 ghost use Rattle.rules.specs.Answers.{check_chain_answer, check_level_answer};
 
 use crate::lent::{Lent, lent_chain};
-use crate::picture::Picture;
 use reduce::by_kind::check_next;
-use rules::{Packing, Refusal};
+use rules::Refusal;
 
 // One level's verdict. Level 0 always follows.
-fn level_verdict(picture: Picture, packing: Packing, texels: &[u32], level: u32) -> Option<usize>
-    requires { (count (faces_of (code_of picture.kind)) picture.width picture.height ≤ length texels.now) × (level ≤ top picture.width picture.height) }
-    ensures { result ≡ level_verdict_of (code_of picture.kind) packing picture.width picture.height texels.now level }
+fn level_verdict(lent: Lent, texels: &[u32], level: u32) -> Option<usize>
+    requires { (count (faces_of (code_of lent.picture.kind)) lent.picture.width lent.picture.height ≤ length texels.now) × (level ≤ top lent.picture.width lent.picture.height) }
+    ensures { result ≡ level_verdict_of (code_of lent.picture.kind) lent.packing lent.picture.width lent.picture.height texels.now level }
 {
     if level < 1 {
         return None;
     }
-    let before = picture.start_of(level - 1);
-    let start = picture.start_of(level);
-    let end = picture.start_of(level + 1);
-    let shape = picture.shape_at(level - 1);
-    let place = start + check_next(picture.kind, packing, shape, &texels[before..]);
+    let before = lent.picture.start_of(level - 1);
+    let start = lent.picture.start_of(level);
+    let end = lent.picture.start_of(level + 1);
+    let shape = lent.picture.shape_at(level - 1);
+    let place = start + check_next(lent.picture.kind, lent.packing, shape, &texels[before..]);
     if place < end { Some(place) } else { None }
 }
 
 // The whole chain's: the first of its levels' verdicts.
-fn chain_verdict(picture: Picture, packing: Packing, texels: &[u32]) -> Option<usize>
-    requires { count (faces_of (code_of picture.kind)) picture.width picture.height ≤ length texels.now }
-    ensures { result ≡ chain_verdict_of (code_of picture.kind) packing picture.width picture.height texels.now }
+fn chain_verdict(lent: Lent, texels: &[u32]) -> Option<usize>
+    requires { count (faces_of (code_of lent.picture.kind)) lent.picture.width lent.picture.height ≤ length texels.now }
+    ensures { result ≡ chain_verdict_of (code_of lent.picture.kind) lent.packing lent.picture.width lent.picture.height texels.now }
 {
-    for level in 0..picture.top_level() + 1 {
-        if let Some(place) = level_verdict(picture, packing, texels, level) {
+    for level in 0..lent.picture.top_level() + 1 {
+        if let Some(place) = level_verdict(lent, texels, level) {
             return Some(place);
         }
     }
@@ -52,8 +50,8 @@ pub fn check_chain(
 ) -> Result<Option<usize>, Refusal>
     ensures answer { result ≡ check_chain_answer kind width height mode texels.now }
 {
-    let Lent { picture, packing } = lent_chain(kind, width, height, mode, texels.len())?;
-    Ok(chain_verdict(picture, packing, texels))
+    let lent = lent_chain(kind, width, height, mode, texels.len())?;
+    Ok(chain_verdict(lent, texels))
 }
 
 // The same of one level.
@@ -68,7 +66,7 @@ pub fn check_level(
 ) -> Result<Option<usize>, Refusal>
     ensures answer { result ≡ check_level_answer kind width height mode texels.now level }
 {
-    let Lent { picture, packing } = lent_chain(kind, width, height, mode, texels.len())?;
-    picture.check_level(level)?;
-    Ok(level_verdict(picture, packing, texels, level))
+    let lent = lent_chain(kind, width, height, mode, texels.len())?;
+    lent.picture.check_level(level)?;
+    Ok(level_verdict(lent, texels, level))
 }

@@ -11,6 +11,7 @@ use crate::refusals::check_room;
 use rules::{Pair, Refusal};
 
 // n is a multiple of 2^order.
+#[tactic(auto, using(crate::proofs::Cuts::one_shl), unfolding(rules::specs::Cuts::aligned))]
 fn multiple(order: u32, n: u32) -> bool
     requires { order ≤ 12 }
     ensures { result ≡ aligned order n }
@@ -36,10 +37,8 @@ fn along(order: u32, side: u32, corner: u32, part: u32) -> bool
 fn check_place(order: u32, picture: Picture, corner: Pair, sides: Pair) -> Result<(), Refusal>
     ensures { result ≡ told (cut_refusal order picture.width picture.height corner sides) }
 {
-    if 12 < order {
-        return Err(Refusal::CutOutside);
-    }
-    if along(order, picture.width, corner.x, sides.x)
+    if order <= 12
+        && along(order, picture.width, corner.x, sides.x)
         && along(order, picture.height, corner.y, sides.y)
     {
         Ok(())

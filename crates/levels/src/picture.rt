@@ -81,7 +81,7 @@ impl Picture {
     }
 
     // The texels of a level.
-    pub fn size_at(self, level: u32) -> usize
+    fn size_at(self, level: u32) -> usize
         requires { level ≤ 12 }
         ensures { result ≡ size_at (faces_of (code_of self.kind)) self.width self.height level }
     {
@@ -108,6 +108,7 @@ impl Picture {
     }
 
     // The whole chain's texels.
+    #[tactic(auto, unfolding(rules::specs::Sizes::count))]
     pub fn count(self) -> usize
         ensures { result ≡ count (faces_of (code_of self.kind)) self.width self.height }
     {

@@ -7,6 +7,7 @@ use crate::picture::Picture;
 use rules::{LevelSizes, Refusal};
 
 // A side at a level: shifted right by its number, and at least 1.
+#[tactic(auto, unfolding(rules::specs::Sizes::side_at))]
 pub fn side_at(side: u32, level: u32) -> u32
     requires { level < 32 }
     ensures { result ≡ side_at level side }
@@ -22,6 +23,7 @@ fn log2(n: u32) -> u32
 }
 
 // The top level: floor(log2(larger side)).
+#[tactic(auto, unfolding(rules::specs::Sizes::top))]
 pub fn top_level(width: u32, height: u32) -> u32
     ensures { result ≡ top width height }
 {

@@ -8,6 +8,7 @@ ghost use Rattle.places.specs.Samplers.{wrapping_of};
 use choice::lanes::{all, each};
 use lane::bilinear::{squares, squares_alpha, squares_rgb};
 use lane::level::level_at;
+use lane::reading::first_faces;
 use levels::layout::Layout;
 use levels::picture::Picture;
 use places::refusals::check_coordinates;
@@ -83,12 +84,6 @@ pub fn sample_bilinear_alpha(
     let layout = Layout::new(kind, width, height, texels.len())?;
     layout.picture.check_no_cubemap()?;
     let by = check_blend(layout.picture, sampler, u, v, level)?;
-    let first = Wholes {
-        a: 0,
-        b: 0,
-        c: 0,
-        d: 0,
-    };
-    let at = squares(level_at(&layout, level), first, by, u, v);
+    let at = squares(level_at(&layout, level), first_faces(), by, u, v);
     Ok(squares_alpha(texels, at))
 }

@@ -16,8 +16,8 @@ loop-level-init c = refl
 pub returns-in-Some : goal.returns-in-Some
 unfolding level_verdict_of chain_verdict_of
 returns-in-Some c =
-    let p = c.args.picture in
-    let R = reduce_of (code_of p.kind) c.args.packing in
+    let p = c.args.lent.picture in
+    let R = reduce_of (code_of p.kind) c.args.lent.packing in
     let F = faces_of (code_of p.kind) in
     let m = c.loop-level.level in
     let l = c.args.texels.now in
@@ -26,12 +26,12 @@ returns-in-Some c =
 pub loop-level-preserved : goal.loop-level-preserved
 unfolding level_verdict_of
 loop-level-preserved c =
-    let p = c.args.picture in
-    rw add-one (levels-more (reduce_of (code_of p.kind) c.args.packing) (faces_of (code_of p.kind)) p.width p.height c.args.texels.now c.loop-level.level c.loop-level.invariant
+    let p = c.args.lent.picture in
+    rw add-one (levels-more (reduce_of (code_of p.kind) c.args.lent.packing) (faces_of (code_of p.kind)) p.width p.height c.args.texels.now c.loop-level.level c.loop-level.invariant
     ∙ sym c.level_verdict.ensures ∙ c.in_default.is)
 
 pub returns : goal.returns
 unfolding chain_verdict_of
 returns c =
-    let e : c.loop-level.level ≡ suc (top c.args.picture.width c.args.picture.height) = omega (arith, c.top_level-level-end.ensures) in
+    let e : c.loop-level.level ≡ suc (top c.args.lent.picture.width c.args.lent.picture.height) = omega (arith, c.top_level-level-end.ensures) in
     sym (rw e at c.loop-level.invariant)

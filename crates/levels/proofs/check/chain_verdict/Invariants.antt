@@ -7,4 +7,4 @@ use Rattle.rules.specs.Checks.{levels_verdict}
 use Rattle.levels.proofs.check.chain_verdict.Given as goal
 
 abbrev pub invariant-loop-level : goal.invariant-loop-level
-invariant-loop-level l = levels_verdict (reduce_of (code_of l.picture.kind) l.packing) (faces_of (code_of l.picture.kind)) l.picture.width l.picture.height l.texels l.level ≡ None
+invariant-loop-level l = levels_verdict (reduce_of (code_of l.lent.picture.kind) l.lent.packing) (faces_of (code_of l.lent.picture.kind)) l.lent.picture.width l.lent.picture.height l.texels l.level ≡ None

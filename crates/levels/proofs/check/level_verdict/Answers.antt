@@ -20,8 +20,8 @@ returns-then-level-lt1 c =
     rw z refl
 
 -- where the level and the one before it stand
-known : (c : goal.Else-level-lt1) → let p = c.args.picture in Behind (faces_of (code_of p.kind)) p.width p.height c.args.level (length c.args.texels.now)
-known c = let p = c.requires in behind _ _ _ _ _ c.args.picture.sides p.0 p.1 (omega arith)
+known : (c : goal.Else-level-lt1) → let p = c.args.lent.picture in Behind (faces_of (code_of p.kind)) p.width p.height c.args.level (length c.args.texels.now)
+known c = let p = c.requires in behind _ _ _ _ _ c.args.lent.picture.sides p.0 p.1 (omega arith)
 
 pub shape_at-shape-requires : goal.shape_at-shape-requires
 shape_at-shape-requires c = omega (arith, (known (goal.at.shape_at-shape-requires c).Else-level-lt1).few)
@@ -72,7 +72,7 @@ check_next-requires c =
 -- where it stops lies in the buffer, or at its end
 ends : (c : goal.After-check_next) → c.start_of-start.result + c.check_next.result ≤ length c.args.texels.now
 ends c =
-    let p = c.args.picture in
+    let p = c.args.lent.picture in
     let m = c.args.level - 1 in
     let k = known (goal.at.After-check_next c).Else-level-lt1 in
     let s = c.shape_at-shape.ensures in
@@ -86,19 +86,19 @@ overflow_add-place c = omega (arith, ends c)
 -- what was found there, as the definition says it
 found : (c : goal.After-check_next)
     → let a = c.args in
-    let p = a.picture in
+    let p = a.lent.picture in
     let place = c.start_of-start.result + c.check_next.result in
-    let verdict = level_verdict_of (code_of p.kind) a.packing p.width p.height a.texels.now a.level in
+    let verdict = level_verdict_of (code_of p.kind) a.lent.packing p.width p.height a.texels.now a.level in
     (place < c.start_of-end.result → Some place ≡ verdict) × (c.start_of-end.result ≤ place → None ≡ verdict)
 unfolding level_verdict_of
 found c =
     let a = c.args in
-    let p = a.picture in
+    let p = a.lent.picture in
     let K = code_of p.kind in
     let before = c.start_of-before in
     let s = c.shape_at-shape.ensures in
     rw (c.start_of-start.ensures, c.start_of-end.ensures)
-    (judged (reduce_of K a.packing) (faces_of K) p.width p.height a.level a.texels.now c.check_next.result (omega arith) (known (goal.at.After-check_next c).Else-level-lt1)
+    (judged (reduce_of K a.lent.packing) (faces_of K) p.width p.height a.level a.texels.now c.check_next.result (omega arith) (known (goal.at.After-check_next c).Else-level-lt1)
     (rw (part_to_end a.texels.now before.result, before.ensures, s.0, s.1, s.2) at c.check_next.ensures))
 
 pub returns-then-place-end : goal.returns-then-place-end
