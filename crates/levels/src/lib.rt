@@ -12,4 +12,3 @@ pub mod picture;
 pub mod refusals;
 pub mod sizes;
 pub mod view;
-mod walk;

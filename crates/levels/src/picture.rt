@@ -47,7 +47,6 @@ impl Picture {
 
     // The shape of a level.
     pub fn shape_at(self, level: u32) -> Shape
-        requires { level ≤ 12 }
         ensures { (result.faces ≡ faces_of (code_of self.kind)) × (result.width ≡ side_at level self.width) × (result.height ≡ side_at level self.height) }
     {
         Shape::new(
@@ -66,7 +65,6 @@ impl Picture {
 
     // A level's width.
     pub fn width_at(self, level: u32) -> u32
-        requires { level ≤ 12 }
         ensures { result ≡ side_at level self.width }
     {
         side_at(self.width, level)
@@ -74,7 +72,6 @@ impl Picture {
 
     // A level's height.
     pub fn height_at(self, level: u32) -> u32
-        requires { level ≤ 12 }
         ensures { result ≡ side_at level self.height }
     {
         side_at(self.height, level)
@@ -82,7 +79,6 @@ impl Picture {
 
     // The texels of a level.
     fn size_at(self, level: u32) -> usize
-        requires { level ≤ 12 }
         ensures { result ≡ size_at (faces_of (code_of self.kind)) self.width self.height level }
     {
         self.kind.faces() * (self.height_at(level) as usize) * (self.width_at(level) as usize)

@@ -1,5 +1,5 @@
 // Sides and level numbers of any picture, and the call that answers a level's sizes.
-ghost use Rattle.std.specs.Prelude.{◌≡◌, ◌<◌};
+ghost use Rattle.std.specs.Prelude.{◌≡◌};
 ghost use Rattle.rules.specs.Sizes.{side_at, log2, top};
 ghost use Rattle.rules.specs.Answers.{level_sizes_answer};
 
@@ -7,12 +7,10 @@ use crate::picture::Picture;
 use rules::{LevelSizes, Refusal};
 
 // A side at a level: shifted right by its number, and at least 1.
-#[tactic(auto, unfolding(rules::specs::Sizes::side_at))]
 pub fn side_at(side: u32, level: u32) -> u32
-    requires { level < 32 }
     ensures { result ≡ side_at level side }
 {
-    (side >> level).max(1)
+    (side >> level.min(31)).max(1)
 }
 
 // floor(log2 n), and 0 at 0.

@@ -23,9 +23,6 @@ returns-then-level-lt1 c =
 known : (c : goal.Else-level-lt1) → let p = c.args.lent.picture in Behind (faces_of (code_of p.kind)) p.width p.height c.args.level (length c.args.texels.now)
 known c = let p = c.requires in behind _ _ _ _ _ c.args.lent.picture.sides p.0 p.1 (omega arith)
 
-pub shape_at-shape-requires : goal.shape_at-shape-requires
-shape_at-shape-requires c = omega (arith, (known (goal.at.shape_at-shape-requires c).Else-level-lt1).few)
-
 pub start_of-before-requires : goal.start_of-before-requires
 start_of-before-requires c =
     let k = known (goal.at.start_of-before-requires c).Else-level-lt1 in

@@ -7,12 +7,6 @@ use Rattle.levels.proofs.layout.Layout.plane.Goals as goal
 pub bounds-self-level : goal.bounds-self-level
 bounds-self-level c = let p = c.args.self.now.picture in let s = p.sides in omega (arith, top-most p.width p.height s.some-w s.most-w s.most-h)
 
-pub width_at-requires : goal.width_at-requires
-width_at-requires c = let p = c.args.self.now.picture in let s = p.sides in omega (arith, top-most p.width p.height s.some-w s.most-w s.most-h)
-
-pub height_at-requires : goal.height_at-requires
-height_at-requires c = let p = c.args.self.now.picture in let s = p.sides in omega (arith, top-most p.width p.height s.some-w s.most-w s.most-h)
-
 pub returns : goal.returns
 unfolding plane_of
 returns c = rw (c.faces.ensures, c.width_at.ensures, c.height_at.ensures, c.args.self.now.started.at _ c.requires)
