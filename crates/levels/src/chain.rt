@@ -18,7 +18,8 @@ pub fn generate_mipmaps(
     ensures answer { result ≡ chain_answer kind width height mode texels.old }
     ensures leaves { texels.new ≡ chain_leaves kind width height mode texels.old }
 {
-    let Lent { picture, packing } = lent_chain(kind, width, height, mode, texels.len())?;
+    let Lent { chain, packing } = lent_chain(kind, width, height, mode, texels)?;
+    let picture = chain.picture;
     let levels = (picture.top_level() as usize) + 1;
     fill(picture.kind, packing, picture.shape(), levels, texels);
     Ok(picture.count())

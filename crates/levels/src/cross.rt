@@ -47,14 +47,14 @@ fn check_cross_sides(width: u32, height: u32) -> Result<(), Refusal>
 
 // 10, 3: width x height x 4 bytes in, six faces out.
 #[tactic(auto, using(rules::proofs::Answering::answer_or), unfolding(rules::specs::Refusals::cross_refusal))]
-fn check_cross(width: u32, height: u32, bytes: usize, faces: usize) -> Result<(), Refusal>
-    ensures { result ≡ told (cross_refusal width height bytes faces) }
+fn check_cross(width: u32, height: u32, bytes: &[u8], faces: &[u32]) -> Result<(), Refusal>
+    ensures { result ≡ told (cross_refusal width height (length bytes.now) (length faces.now)) }
 {
     check_cross_sides(width, height)?;
     let w = width as usize;
     let h = height as usize;
-    check_room(h * w * 4, bytes)?;
-    check_room(6 * (h / 3) * (w / 4), faces)
+    check_room(h * w * 4, bytes.len())?;
+    check_room(6 * (h / 3) * (w / 4), faces.len())
 }
 
 // Writes the rows of the six faces one after the other; leftover columns and rows of the cross are ignored.
@@ -82,7 +82,7 @@ pub fn cut_cross(width: u32, height: u32, bytes: &[u8], faces: &mut [u32]) -> Re
     ensures answer { result ≡ cross_answer width height bytes.now faces.old }
     ensures leaves { faces.new ≡ cross_leaves width height bytes.now faces.old }
 {
-    check_cross(width, height, bytes.len(), faces.len())?;
+    check_cross(width, height, bytes, faces)?;
     let w = width as usize;
     let h = height as usize;
     write_faces(w, h, bytes, faces);

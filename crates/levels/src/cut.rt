@@ -53,19 +53,19 @@ fn check_cut(
     kind: u32,
     width: u32,
     height: u32,
-    source: usize,
+    source: &[u32],
     order: u32,
     corner: Pair,
     sides: Pair,
-    target: usize,
+    target: &[u32],
 ) -> Result<(), Refusal>
-    ensures { result ≡ told (cut_call_refusal kind width height source order corner sides target) }
+    ensures { result ≡ told (cut_call_refusal kind width height (length source.now) order corner sides (length target.now)) }
 {
     let picture = Picture::new(kind, width, height)?;
-    check_room(picture.level0(), source)?;
+    check_room(picture.level0(), source.len())?;
     picture.check_no_cubemap()?;
     check_place(order, picture, corner, sides)?;
-    check_room((sides.y as usize) * (sides.x as usize), target)
+    check_room((sides.y as usize) * (sides.x as usize), target.len())
 }
 
 // Writes the cut's rows one after the other. The source's level 0 is w wide.
@@ -101,16 +101,7 @@ pub fn cut(
     ensures answer { result ≡ cut_answer kind width height source.now order corner sides target.old }
     ensures leaves { target.new ≡ cut_leaves kind width height source.now order corner sides target.old }
 {
-    check_cut(
-        kind,
-        width,
-        height,
-        source.len(),
-        order,
-        corner,
-        sides,
-        target.len(),
-    )?;
+    check_cut(kind, width, height, source, order, corner, sides, target)?;
     write_cut(width as usize, corner, sides, source, target);
     Ok((sides.y as usize) * (sides.x as usize))
 }

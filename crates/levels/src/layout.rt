@@ -24,7 +24,7 @@ impl Layout {
     ghost use Rattle.rules.specs.Answers.{done, told};
     ghost use Rattle.levels.specs.Pictures.{IsPicture};
 
-    // 1, 2, 3: the picture, then a buffer of n entries for its whole chain.
+    // 1, 2, 3: the picture, then a buffer of n entries for its whole chain. A number and no buffer: a file's is asked for before there is one.
     #[tactic(auto, using(rules::proofs::Answering::answer_or), unfolding(rules::specs::Refusals::chain_refusal))]
     pub fn new(kind: u32, width: u32, height: u32, n: usize) -> Result<Layout, Refusal>
         ensures told { done result ≡ told (chain_refusal kind width height n) }

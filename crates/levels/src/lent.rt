@@ -1,9 +1,9 @@
-// A chain that is lent, and the packing mode that it is made by.
-ghost use Rattle.std.specs.Prelude.{◌≡◌, ◌≤◌, IfOk};
+// A picture's chain that is lent, and the packing mode that it is made by.
+ghost use Rattle.std.specs.Prelude.{◌≡◌, ◌≤◌, length, IfOk};
 ghost use Rattle.rules.specs.Packing.{packing_of};
 ghost use Rattle.rules.specs.Sizes.{count};
 ghost use Rattle.rules.specs.Refusals.{mipmaps_refusal};
-ghost use Rattle.rules.specs.Kinds.{faces_of};
+ghost use Rattle.rules.specs.Kinds.{faces_of, code_of};
 ghost use Rattle.rules.specs.Answers.{done, told};
 ghost use Rattle.levels.specs.Pictures.{IsPicture};
 
@@ -11,20 +11,36 @@ use crate::layout::Layout;
 use crate::picture::Picture;
 use rules::{Packing, Refusal};
 
+// The texels have room for the whole chain, and perhaps for more.
 #[derive(Clone, Copy)]
-pub struct Lent {
+pub struct Chain<'a> {
     pub picture: Picture,
+    pub texels: &'a [u32],
+    pub ghost room: { count (faces_of (code_of picture.kind)) picture.width picture.height ≤ length texels.now },
+}
+
+#[derive(Clone, Copy)]
+pub struct Lent<'a> {
+    pub chain: Chain<'a>,
     pub packing: Packing,
 }
 
-// 1, 2, 3, 15: the chain within n texels, then the mode.
+// 1, 2, 3, 15: the chain within the texels, then the mode.
 #[tactic(auto, using(rules::proofs::Answering::answer_or, rules::proofs::Answering::answer_as), unfolding(rules::specs::Refusals::mipmaps_refusal))]
-pub fn lent_chain(kind: u32, width: u32, height: u32, mode: u32, n: usize) -> Result<Lent, Refusal>
-    ensures told { done result ≡ told (mipmaps_refusal kind width height mode n) }
-    ensures is { IfOk result (λ l. IsPicture kind width height l.picture × (l.packing ≡ packing_of mode)) }
-    ensures room { IfOk result (λ l. count (faces_of kind) width height ≤ n) }
+pub fn lent_chain<'a>(
+    kind: u32,
+    width: u32,
+    height: u32,
+    mode: u32,
+    texels: &'a [u32],
+) -> Result<Lent<'a>, Refusal>
+    ensures told { done result ≡ told (mipmaps_refusal kind width height mode (length texels.now)) }
+    ensures is { IfOk result (λ l. IsPicture kind width height l.chain.picture × (l.packing ≡ packing_of mode) × (l.chain.texels.now ≡ texels.now)) }
 {
-    let picture = Layout::new(kind, width, height, n)?.picture;
+    let picture = Layout::new(kind, width, height, texels.len())?.picture;
     let packing = Packing::try_from(mode)?;
-    Ok(Lent { picture, packing })
+    Ok(Lent {
+        chain: Chain { picture, texels },
+        packing,
+    })
 }

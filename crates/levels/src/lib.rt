@@ -7,7 +7,7 @@ pub mod check;
 pub mod cross;
 pub mod cut;
 pub mod layout;
-mod lent;
+pub mod lent;
 pub mod picture;
 pub mod refusals;
 pub mod sizes;

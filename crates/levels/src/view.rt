@@ -14,20 +14,20 @@ pub struct Face {
     pub size: usize,
 }
 
-// The face that is viewed, within n texels: 1, 2, 3, 8, 6.
+// The face that is viewed, within the texels: 1, 2, 3, 8, 6. A place and not the part: the C boundary hands out where it starts.
 #[tactic(auto, using(rules::proofs::Answering::answer_or), unfolding(rules::specs::Refusals::view_refusal))]
 pub fn face_of(
     kind: u32,
     width: u32,
     height: u32,
-    n: usize,
+    texels: &[u32],
     level: u32,
     face: u32,
 ) -> Result<Face, Refusal>
-    ensures told { done result ≡ told (view_refusal kind width height n level face) }
-    ensures is { IfOk result (λ r. IsFace kind width height level face r × (r.start + r.size ≤ n)) }
+    ensures told { done result ≡ told (view_refusal kind width height (length texels.now) level face) }
+    ensures is { IfOk result (λ r. IsFace kind width height level face r × (r.start + r.size ≤ length texels.now)) }
 {
-    let layout = Layout::new(kind, width, height, n)?;
+    let layout = Layout::new(kind, width, height, texels.len())?;
     let picture = layout.picture;
     picture.check_face(face)?;
     picture.check_level(level)?;
@@ -47,7 +47,7 @@ pub fn level_view_refusal(
 ) -> Result<(), Refusal>
     ensures answer { result ≡ told (view_refusal kind width height (length texels.now) level face) }
 {
-    face_of(kind, width, height, texels.len(), level, face)?;
+    face_of(kind, width, height, texels, level, face)?;
     Ok(())
 }
 
@@ -62,8 +62,8 @@ pub fn level_view<'a>(
 ) -> &'a [u32]
     ensures answer { result.now ≡ view_answer kind width height texels.now level face }
 {
-    match face_of(kind, width, height, texels.len(), level, face) {
+    match face_of(kind, width, height, texels, level, face) {
         Ok(found) => &texels[found.start..found.start + found.size],
-        Err(_) => &texels[0..0],
+        Err(_) => &[],
     }
 }

@@ -97,7 +97,7 @@ pub fn swathecold_level_view(
     ensures writes { part.new ≡ view_written kind width height (length texels.now) level face part.old }
 {
     hand_out(
-        texture::face_of(kind, width, height, texels.len(), level, face),
+        texture::face_of(kind, width, height, texels, level, face),
         part,
     )
 }

@@ -1,7 +1,7 @@
 // A file's levels, one line each.
 ghost use Rattle.std.specs.Prelude.{◌≡◌, ◌++◌, suc, ◌+◌, ◌≤◌, length, drop, Ok};
-ghost use Rattle.rules.specs.Kinds.{faces_of, code_of};
-ghost use Rattle.rules.specs.Sizes.{top, count};
+ghost use Rattle.rules.specs.Kinds.{code_of};
+ghost use Rattle.rules.specs.Sizes.{top};
 ghost use Rattle.rules.specs.Answers.{answer, refused};
 ghost use Rattle.txr.specs.File.{file_refusal};
 ghost use Rattle.txr.specs.Listing.{level_line, level_lines, file_lines, listing_of};
@@ -9,28 +9,28 @@ ghost use Rattle.txr.specs.Listing.{level_line, level_lines, file_lines, listing
 use crate::file::{load, picture_in};
 use crate::page::Page;
 use levels::chain::generate_mipmaps;
+use levels::lent::Chain;
 use levels::picture::Picture;
 use rules::Refusal;
 
 // The line of level m.
-fn level_line(picture: Picture, chain: &[u32], m: u32, page: &mut Page)
-    requires room { count (faces_of (code_of picture.kind)) picture.width picture.height ≤ length chain.now }
-    requires level { m ≤ top picture.width picture.height }
+fn level_line(chain: Chain, m: u32, page: &mut Page)
+    requires level { m ≤ top chain.picture.width chain.picture.height }
     requires page { length page.old + 24 ≤ 512 }
-    ensures { page.new ≡ page.old ++ level_line (code_of picture.kind) picture.width picture.height chain.now m }
+    ensures { page.new ≡ page.old ++ level_line (code_of chain.entry.picture.kind) chain.entry.picture.width chain.entry.picture.height chain.entry.texels.now m }
 {
-    let first = chain[picture.start_of(m)];
+    let picture = chain.picture;
+    let first = chain.texels[picture.start_of(m)];
     page.line(m, picture.width_at(m), picture.height_at(m), first);
 }
 
 // One line a level.
-fn level_lines(picture: Picture, chain: &[u32]) -> Page
-    requires { count (faces_of (code_of picture.kind)) picture.width picture.height ≤ length chain.now }
-    ensures { result ≡ level_lines (code_of picture.kind) picture.width picture.height chain.now (suc (top picture.width picture.height)) }
+fn level_lines(chain: Chain) -> Page
+    ensures { result ≡ level_lines (code_of chain.entry.picture.kind) chain.entry.picture.width chain.entry.picture.height chain.entry.texels.now (suc (top chain.entry.picture.width chain.entry.picture.height)) }
 {
     let mut page = Page::new();
-    for m in 0..=picture.top_level() {
-        level_line(picture, chain, m, &mut page);
+    for m in 0..=chain.picture.top_level() {
+        level_line(chain, m, &mut page);
     }
     page
 }
@@ -46,10 +46,13 @@ fn list_levels(input: &[u8]) -> Result<Page, Refusal>
         width,
         height,
     } = picture;
-    let mut chain = [0u32; 16384];
-    load(input, &mut chain[..picture.level0()]);
-    generate_mipmaps(kind.code(), width, height, 0, &mut chain)?;
-    Ok(level_lines(picture, &chain))
+    let mut texels = [0u32; 16384];
+    load(input, &mut texels[..picture.level0()]);
+    generate_mipmaps(kind.code(), width, height, 0, &mut texels)?;
+    Ok(level_lines(Chain {
+        picture,
+        texels: &texels,
+    }))
 }
 
 // What the listing program writes for what it read.

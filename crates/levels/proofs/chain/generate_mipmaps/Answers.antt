@@ -12,14 +12,13 @@ use Rattle.levels.proofs.chain.generate_mipmaps.Goals as goal
 pub fill-requires : goal.fill-requires
 unfolding count
 fill-requires c =
-    let is = c.in_ok-picture.ensures.is.0 in
     let s = c.shape.ensures in
-    record { room = (omega arith, rw (s.0, s.1, s.2, c.top_level.ensures.0, is.0, is.1, is.2, add-one) c.in_ok-picture.ensures.room) }
+    record { room = (omega arith, rw (s.0, s.1, s.2, c.top_level.ensures.0, add-one) (rw c.in_ok-chain.ensures.is.2 at c.in_ok-chain.field-0.chain.room)) }
 
 pub returns-clause-leaves : goal.returns-clause-leaves
 unfolding filled_of chain_leaves
 returns-clause-leaves c =
-    let given = c.in_ok-picture.ensures in
+    let given = c.in_ok-chain.ensures in
     let is = given.is.0 in
     let s = c.shape.ensures in
     c.fill.ensures

@@ -3,6 +3,7 @@ use mathlib.Core.Path.{◌≡◌}
 use Prim.Native.Nat.{◌+◌, ◌*◌, ◌≤◌}
 use native.Mathlib.Nat.{le_trans}
 use native.Mathlib.Omega.{arith}
+use lib.ListN.{length}
 use Rattle.rules.specs.Kinds.{faces_of}
 use Rattle.rules.specs.Sizes.{side_at, start}
 use Rattle.rules.specs.Places.{plane_of}
@@ -17,7 +18,7 @@ ends : (c : goal.After-plane)
     let size = c.height_at.result * c.width_at.result in
     (c.plane.result.start ≡ start (faces_of a.kind) a.width a.height a.level)
     × (size ≡ side_at a.level a.height * side_at a.level a.width)
-    × (c.plane.result.start + a.face * size + size ≤ a.n)
+    × (c.plane.result.start + a.face * size + size ≤ length a.texels.now)
 unfolding plane_of face_start
 ends c =
     let a = c.args in

@@ -10,35 +10,25 @@ use Rattle.txr.proofs.listing.level_line.Goals as goal
 
 pub start_of-requires : goal.start_of-requires
 start_of-requires c =
-    let p = c.args.picture in
-    omega (arith, top-most p.width p.height p.sides.some-w p.sides.most-w p.sides.most-h)
-
-pub width_at-requires : goal.width_at-requires
-width_at-requires c =
-    let p = c.args.picture in
-    omega (arith, top-most p.width p.height p.sides.some-w p.sides.most-w p.sides.most-h)
-
-pub height_at-requires : goal.height_at-requires
-height_at-requires c =
-    let p = c.args.picture in
+    let p = c.args.chain.picture in
     omega (arith, top-most p.width p.height p.sides.some-w p.sides.most-w p.sides.most-h)
 
 pub offset_bounds-chain-start_of : goal.offset_bounds-chain-start_of
 offset_bounds-chain-start_of c =
-    let p = c.args.picture in
-    omega (arith, level-inside (code_of p.kind) p.width p.height c.args.m (length c.args.chain.now) c.requires.level c.requires.room, c.start_of.ensures)
+    let p = c.args.chain.picture in
+    omega (arith, level-inside (code_of p.kind) p.width p.height c.args.m (length c.args.chain.texels.now) c.requires.level c.args.chain.room, c.start_of.ensures)
 
 pub bounds-chain-start_of : goal.bounds-chain-start_of
 bounds-chain-start_of c =
-    let p = c.args.picture in
-    rw c.start_of.ensures (level-inside (code_of p.kind) p.width p.height c.args.m (length c.args.chain.now) c.requires.level c.requires.room)
+    let p = c.args.chain.picture in
+    rw c.start_of.ensures (level-inside (code_of p.kind) p.width p.height c.args.m (length c.args.chain.texels.now) c.requires.level c.args.chain.room)
 
 pub line-requires : goal.line-requires
 unfolding level_line
 line-requires c =
-    let p = c.args.picture in
+    let p = c.args.chain.picture in
     let s = p.sides in
-    let short = level-most (code_of p.kind) p.width p.height s.some-w s.most-w s.some-h s.most-h c.args.m c.requires.level c.args.chain.now in
+    let short = level-most (code_of p.kind) p.width p.height s.some-w s.most-w s.some-h s.most-h c.args.m c.requires.level c.args.chain.texels.now in
     rw (c.width_at.ensures, c.height_at.ensures, c.start_of.ensures) (omega (arith, short))
 
 pub returns : goal.returns

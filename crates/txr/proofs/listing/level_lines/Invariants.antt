@@ -5,4 +5,4 @@ use Rattle.txr.specs.Listing.{level_lines}
 use Rattle.txr.proofs.listing.level_lines.Given as goal
 
 abbrev pub invariant-loop-m : goal.invariant-loop-m
-invariant-loop-m l = l.page ≡ level_lines (code_of l.picture.kind) l.picture.width l.picture.height l.chain l.m
+invariant-loop-m l = l.page ≡ level_lines (code_of l.chain.picture.kind) l.chain.picture.width l.chain.picture.height l.chain.texels.now l.m

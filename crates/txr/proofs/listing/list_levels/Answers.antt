@@ -20,8 +20,8 @@ size c = let is = c.in_ok-picture.ensures.is in c.level0.ensures ∙ rw (is.0, i
 fits : (c : goal.After-level0) → c.level0.result ≤ longest
 fits c = rw (size c) (load-asked c.args.input.now (taken c)).0
 
-pub slice_bounds-chain-end : goal.slice_bounds-chain-end
-slice_bounds-chain-end c = fits (goal.at.slice_bounds-chain-end c).After-level0
+pub slice_bounds-texels-end : goal.slice_bounds-texels-end
+slice_bounds-texels-end c = fits (goal.at.slice_bounds-texels-end c).After-level0
 
 pub slice_bounds-load-end : goal.slice_bounds-load-end
 slice_bounds-load-end c = sym (length-take-le _ _ (fits (goal.at.slice_bounds-load-end c).After-level0))
@@ -39,12 +39,11 @@ returns-in_err-generate_mipmaps c =
     let is = c.in_ok-picture.ensures.is in
     absurd (chain-made c.args.input.now (taken k) c.code.result p.width p.height (c.code.ensures ∙ is.0) is.1 is.2 _ c.load.new.texels _ refl _ c.load.ensures (length-take-le _ _ (fits k) ∙ size k) (omega arith) _ c.in_err-generate_mipmaps.ensures.answer)
 
-pub level_lines-requires : goal.level_lines-requires
-level_lines-requires c =
-    let k = (goal.at.level_lines-requires c).After-level0 in
-    let p = c.in_ok-picture.picture in
+pub invariant_of-level_lines : goal.invariant_of-level_lines
+invariant_of-level_lines c =
+    let k = (goal.at.invariant_of-level_lines c).After-level0 in
     let is = c.in_ok-picture.ensures.is in
-    rw (← c.code.ensures) (chain-room c.args.input.now (taken k) c.code.result p.width p.height (c.code.ensures ∙ is.0) is.1 is.2 _ (omega arith))
+    record { room = chain-room c.args.input.now (taken k) _ _ _ is.0 is.1 is.2 _ (omega arith) }
 
 pub returns : goal.returns
 returns c =

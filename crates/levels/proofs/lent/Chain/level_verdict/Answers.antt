@@ -1,4 +1,4 @@
--- `levels::check::level_verdict` meets its contract: level 0 follows, and any other is judged behind the level before it.
+-- `levels::lent::Chain::level_verdict` meets its contract: level 0 follows, and any other is judged behind the level before it.
 use mathlib.Core.Path.{◌≡◌, refl}
 use Prim.Native.Nat.{◌+◌, ◌-◌, ◌*◌, ◌≤◌, ◌<◌}
 use native.Mathlib.Omega.{arith}
@@ -10,8 +10,8 @@ use Rattle.rules.specs.Sizes.{side_at, half}
 use Rattle.rules.specs.Reducing.{reduce_of}
 use Rattle.rules.specs.Checks.{level_verdict, level_verdict_of}
 use Rattle.levels.proofs.Checks.{Behind, behind, judged}
-use Rattle.levels.proofs.check.level_verdict.Goals as goal
-use Rattle.levels.proofs.check.level_verdict.Goals.{After-check_next, After-start_of-end, Else-level-lt1}
+use Rattle.levels.proofs.lent.Chain.level_verdict.Goals as goal
+use Rattle.levels.proofs.lent.Chain.level_verdict.Goals.{After-check_next, After-start_of-end, Else-level-lt1}
 
 pub returns-then-level-lt1 : goal.returns-then-level-lt1
 unfolding level_verdict_of level_verdict
@@ -20,8 +20,8 @@ returns-then-level-lt1 c =
     rw z refl
 
 -- where the level and the one before it stand
-known : (c : goal.Else-level-lt1) → let p = c.args.lent.picture in Behind (faces_of (code_of p.kind)) p.width p.height c.args.level (length c.args.texels.now)
-known c = let p = c.requires in behind _ _ _ _ _ c.args.lent.picture.sides p.0 p.1 (omega arith)
+known : (c : goal.Else-level-lt1) → let p = c.args.self.picture in Behind (faces_of (code_of p.kind)) p.width p.height c.args.level (length c.args.self.texels.now)
+known c = let chain = c.args.self in behind _ _ _ _ _ chain.picture.sides chain.room c.requires (omega arith)
 
 pub start_of-before-requires : goal.start_of-before-requires
 start_of-before-requires c =
@@ -42,13 +42,13 @@ start_of-end-requires c =
     omega (arith, k.few)
 
 -- the part from the level before on lies in the buffer
-fits : (c : goal.After-start_of-end) → c.start_of-before.result ≤ length c.args.texels.now
+fits : (c : goal.After-start_of-end) → c.start_of-before.result ≤ length c.args.self.texels.now
 fits c =
     let k = known (goal.at.After-start_of-end c).Else-level-lt1 in
     rw c.start_of-before.ensures (omega (arith, k.starts, k.ends, k.inside))
 
-pub offset_bounds-texels-before : goal.offset_bounds-texels-before
-offset_bounds-texels-before c = omega (arith, fits (goal.at.offset_bounds-texels-before c).After-start_of-end)
+pub offset_bounds-self-before : goal.offset_bounds-self-before
+offset_bounds-self-before c = omega (arith, fits (goal.at.offset_bounds-self-before c).After-start_of-end)
 
 pub slice_bounds-check_next-count : goal.slice_bounds-check_next-count
 slice_bounds-check_next-count c = fits (goal.at.slice_bounds-check_next-count c).After-start_of-end
@@ -67,9 +67,9 @@ check_next-requires c =
     }
 
 -- where it stops lies in the buffer, or at its end
-ends : (c : goal.After-check_next) → c.start_of-start.result + c.check_next.result ≤ length c.args.texels.now
+ends : (c : goal.After-check_next) → c.start_of-start.result + c.check_next.result ≤ length c.args.self.texels.now
 ends c =
-    let p = c.args.lent.picture in
+    let p = c.args.self.picture in
     let m = c.args.level - 1 in
     let k = known (goal.at.After-check_next c).Else-level-lt1 in
     let s = c.shape_at-shape.ensures in
@@ -83,20 +83,20 @@ overflow_add-place c = omega (arith, ends c)
 -- what was found there, as the definition says it
 found : (c : goal.After-check_next)
     → let a = c.args in
-    let p = a.lent.picture in
+    let p = a.self.picture in
     let place = c.start_of-start.result + c.check_next.result in
-    let verdict = level_verdict_of (code_of p.kind) a.lent.packing p.width p.height a.texels.now a.level in
+    let verdict = level_verdict_of (code_of p.kind) a.packing p.width p.height a.self.texels.now a.level in
     (place < c.start_of-end.result → Some place ≡ verdict) × (c.start_of-end.result ≤ place → None ≡ verdict)
 unfolding level_verdict_of
 found c =
     let a = c.args in
-    let p = a.lent.picture in
+    let p = a.self.picture in
     let K = code_of p.kind in
     let before = c.start_of-before in
     let s = c.shape_at-shape.ensures in
     rw (c.start_of-start.ensures, c.start_of-end.ensures)
-    (judged (reduce_of K a.lent.packing) (faces_of K) p.width p.height a.level a.texels.now c.check_next.result (omega arith) (known (goal.at.After-check_next c).Else-level-lt1)
-    (rw (part_to_end a.texels.now before.result, before.ensures, s.0, s.1, s.2) at c.check_next.ensures))
+    (judged (reduce_of K a.packing) (faces_of K) p.width p.height a.level a.self.texels.now c.check_next.result (omega arith) (known (goal.at.After-check_next c).Else-level-lt1)
+    (rw (part_to_end a.self.texels.now before.result, before.ensures, s.0, s.1, s.2) at c.check_next.ensures))
 
 pub returns-then-place-end : goal.returns-then-place-end
 returns-then-place-end c = (found (goal.at.returns-then-place-end c).After-check_next).0 c.if-place-end.true
