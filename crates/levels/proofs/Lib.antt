@@ -4,3 +4,4 @@ pub mod Rows
 pub mod Cuts
 pub mod Crosses
 pub mod Checks
+pub mod Firsts

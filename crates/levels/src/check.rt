@@ -31,12 +31,7 @@ impl Chain<'_> {
     fn verdict(self, packing: Packing) -> Option<usize>
         ensures { result ≡ chain_verdict_of (code_of self.entry.picture.kind) packing self.entry.picture.width self.entry.picture.height self.entry.texels.now }
     {
-        for level in 0..self.picture.top_level() + 1 {
-            if let Some(place) = self.level_verdict(packing, level) {
-                return Some(place);
-            }
-        }
-        None
+        (0..self.picture.top_level() + 1).find_map(|level| self.level_verdict(packing, level))
     }
 }
 
