@@ -31,7 +31,7 @@ impl Chain<'_> {
     fn verdict(self, packing: Packing) -> Option<usize>
         ensures { result ≡ chain_verdict_of (code_of self.entry.picture.kind) packing self.entry.picture.width self.entry.picture.height self.entry.texels.now }
     {
-        (0..self.picture.top_level() + 1).find_map(|level| self.level_verdict(packing, level))
+        (0..=self.picture.top_level()).find_map(|level| self.level_verdict(packing, level))
     }
 }
 

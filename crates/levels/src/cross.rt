@@ -57,7 +57,7 @@ fn check_cross(width: u32, height: u32, bytes: &[u8], faces: &[u32]) -> Result<(
     check_room(6 * (h / 3) * (w / 4), faces.len())
 }
 
-// Writes the rows of the six faces one after the other; leftover columns and rows of the cross are ignored.
+// Writes the rows of the six faces one after the other; leftover columns and rows of the cross are ignored. By place, as a cut's rows.
 fn write_faces(width: usize, height: usize, bytes: &[u8], faces: &mut [u32])
     requires sides { (4 ≤ width) × (width < 16388) × (3 ≤ height) × (height < 12291) }
     requires bytes_room { height * width * 4 ≤ length bytes.now }

@@ -1,5 +1,4 @@
 -- `levels::lent::Chain::verdict` meets its contract: the first of the levels' verdicts.
-use mathlib.Core.Path.{◌≡◌, sym, ◌∙◌}
 use native.Mathlib.Numerals.{add-one}
 use Rattle.std.proofs.Common.{rules}
 use Rattle.rules.specs.Kinds.{faces_of, code_of}
@@ -16,4 +15,4 @@ returns c =
     let K = code_of p.kind in
     rw (← add-one, ← c.top_level.ensures.0)
     (first_verdict (reduce_of K a.packing) (faces_of K) p.width p.height a.self.texels.now _ _
-    (first_mapped _ (λ x r f k. search rules) (λ x r k. search rules) _ _ c.find_map.ensures.runs))
+    (first_mapped _ (λ x r f k. search rules) (λ x r k. search rules) _ _ _ c.new.ensures.start c.new.ensures.end c.new.ensures.exhausted c.find_map.ensures.runs))
