@@ -8,10 +8,11 @@ use native.Mathlib.Omega.{arith}
 use lib.Dec.{lit≤}
 use lib.ListN.{length}
 use Rattle.rules.specs.Sizes.{side_at, top, size_at, start}
-use Rattle.rules.proofs.Bounds.{level0-most}
+use Rattle.rules.proofs.Bounds.{level0-most, top-most}
 use Rattle.kinds.specs.Runs.{over}
 use Rattle.kinds.proofs.Runs.{length_over, over-within}
 use Rattle.levels.specs.Starts.{Started}
+use Rattle.levels.specs.declared.level.PictureLevel.{PictureLevel}
 
 pub side-most : (m s : ℕ) → s ≤ 4096 → side_at m s ≤ 4096
 unfolding side_at
@@ -36,3 +37,7 @@ started {faces} {w} {h} old long pf pw ph most e =
       at = λ m le. rw (zero-add m) at (over-within 0 old (top w h + 1) (start faces w h) m (omega arith) (omega arith));
       small = λ m le. omega (arith, start-most faces w h pf pw ph m);
     })
+
+-- no level is above 12
+pub level-few : (l : PictureLevel) → l.number ≤ 12
+level-few l = let s = l.picture.sides in omega (arith, l.within, top-most l.picture.width l.picture.height s.some-w s.most-w s.most-h)

@@ -7,6 +7,7 @@ ghost use Rattle.rules.specs.Checks.{level_verdict_of, chain_verdict_of};
 ghost use Rattle.rules.specs.Answers.{check_chain_answer, check_level_answer};
 
 use crate::lent::{Chain, Lent, lent_chain};
+use crate::level::PictureLevel;
 use reduce::by_kind::check_next;
 use rules::{Packing, Refusal};
 
@@ -19,11 +20,19 @@ impl Chain<'_> {
         if level < 1 {
             return None;
         }
-        let before = self.picture.start_of(level - 1);
-        let start = self.picture.start_of(level);
-        let end = self.picture.start_of(level + 1);
-        let shape = self.picture.shape_at(level - 1);
-        let place = start + check_next(self.picture.kind, packing, shape, &self.texels[before..]);
+        let picture = self.picture;
+        let before = PictureLevel {
+            picture,
+            number: level - 1,
+        };
+        let from = before.start();
+        let start = before.end();
+        let place = start + check_next(picture.kind, packing, before.shape(), &self.texels[from..]);
+        let end = PictureLevel {
+            picture,
+            number: level,
+        }
+        .end();
         if place < end { Some(place) } else { None }
     }
 

@@ -68,7 +68,8 @@ fn check_cut(
     check_room((sides.y as usize) * (sides.x as usize), target.len())
 }
 
-// Writes the cut's rows one after the other. The source's level 0 is w wide. By place: of `chunks_exact_mut` the library tells the length alone.
+// Writes the cut's rows one after the other. The source's level 0 is w wide. By place: of `chunks_exact_mut` the library tells the length
+// alone.
 fn write_cut(w: usize, corner: Pair, sides: Pair, source: &[u32], target: &mut [u32])
     requires across { corner.x + sides.x ≤ w }
     requires source_room { (corner.y + sides.y) * w ≤ length source.now }

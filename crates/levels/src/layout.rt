@@ -5,6 +5,7 @@ ghost use Rattle.rules.specs.Sizes.{top, start, count};
 ghost use Rattle.kinds.specs.Runs.{over};
 ghost use Rattle.levels.specs.Starts.{Started};
 
+use crate::level::PictureLevel;
 use crate::picture::Picture;
 use crate::refusals::check_room;
 use rules::{Plane, Refusal};
@@ -24,7 +25,7 @@ impl Layout {
     ghost use Rattle.rules.specs.Answers.{done, told};
     ghost use Rattle.levels.specs.Pictures.{IsPicture};
 
-    // 1, 2, 3: the picture, then a buffer of n entries for its whole chain. A number and no buffer: a file's is asked for before there is one.
+    // 1, 2, 3: the picture, then a buffer of n entries for its whole chain. A number: for a file it is asked before there is a buffer.
     #[tactic(auto, using(rules::proofs::Answering::answer_or), unfolding(rules::specs::Refusals::chain_refusal))]
     pub fn new(kind: u32, width: u32, height: u32, n: usize) -> Result<Layout, Refusal>
         ensures told { done result ≡ told (chain_refusal kind width height n) }
@@ -43,12 +44,15 @@ impl Layout {
         requires { level ≤ top self.now.picture.width self.now.picture.height }
         ensures { result ≡ plane_of (code_of self.now.picture.kind) self.now.picture.width self.now.picture.height level }
     {
-        let picture = self.picture;
+        let at = PictureLevel {
+            picture: self.picture,
+            number: level,
+        };
         Plane {
             start: self.starts[level as usize] as usize,
-            faces: picture.kind.faces(),
-            width: picture.width_at(level) as usize,
-            height: picture.height_at(level) as usize,
+            faces: self.picture.kind.faces(),
+            width: at.width() as usize,
+            height: at.height() as usize,
         }
     }
 

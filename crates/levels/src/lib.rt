@@ -8,6 +8,7 @@ pub mod cross;
 pub mod cut;
 pub mod layout;
 pub mod lent;
+pub mod level;
 pub mod picture;
 pub mod refusals;
 pub mod sizes;

@@ -1,10 +1,11 @@
-// A picture of which nothing is refused: its kind is known, and its sides are 1 to 4,096. Its levels' sides, sizes and starts, and what
-// of it a call may refuse.
+// A picture of which nothing is refused: its kind is known, and its sides are 1 to 4,096. How many texels its chain has, and what of it a
+// call may refuse.
 ghost use Rattle.reduce.specs.Levels.{Sides};
 ghost use Rattle.rules.specs.Kinds.{faces_of, code_of};
 
+use crate::level::PictureLevel;
 use crate::refusals::check_sides;
-use crate::sizes::{side_at, top_level};
+use crate::sizes::top_level;
 use reduce::shape::Shape;
 use rules::{Kind, Refusal};
 
@@ -18,7 +19,7 @@ pub struct Picture {
 
 impl Picture {
     ghost use Rattle.std.specs.Prelude.{◌≡◌, ◌*◌, ◌<◌, ◌≤◌, IfOk};
-    ghost use Rattle.rules.specs.Sizes.{side_at, top, size_at, start, count};
+    ghost use Rattle.rules.specs.Sizes.{top, count};
     ghost use Rattle.rules.specs.Refusals.{picture_refusal, level_refusal, no_cubemap_refusal, only_cubemap_refusal, face_refusal};
     ghost use Rattle.rules.specs.Answers.{done, told};
     ghost use Rattle.levels.specs.Pictures.{IsPicture};
@@ -45,43 +46,11 @@ impl Picture {
         Shape::new(self.kind.faces(), self.width as usize, self.height as usize)
     }
 
-    // The shape of a level.
-    pub fn shape_at(self, level: u32) -> Shape
-        ensures { (result.faces ≡ faces_of (code_of self.kind)) × (result.width ≡ side_at level self.width) × (result.height ≡ side_at level self.height) }
-    {
-        Shape::new(
-            self.kind.faces(),
-            self.width_at(level) as usize,
-            self.height_at(level) as usize,
-        )
-    }
-
     // The top level: floor(log2(larger side)).
     pub fn top_level(self) -> u32
         ensures { (result ≡ top self.width self.height) × (result ≤ 12) }
     {
         top_level(self.width, self.height)
-    }
-
-    // A level's width.
-    pub fn width_at(self, level: u32) -> u32
-        ensures { result ≡ side_at level self.width }
-    {
-        side_at(self.width, level)
-    }
-
-    // A level's height.
-    pub fn height_at(self, level: u32) -> u32
-        ensures { result ≡ side_at level self.height }
-    {
-        side_at(self.height, level)
-    }
-
-    // The texels of a level.
-    fn size_at(self, level: u32) -> usize
-        ensures { result ≡ size_at (faces_of (code_of self.kind)) self.width self.height level }
-    {
-        self.kind.faces() * (self.height_at(level) as usize) * (self.width_at(level) as usize)
     }
 
     // The texels of level 0.
@@ -91,24 +60,17 @@ impl Picture {
         self.kind.faces() * (self.height as usize) * (self.width as usize)
     }
 
-    // Where a level starts: levels follow each other without gaps.
-    pub fn start_of(self, level: u32) -> usize
-        requires { level ≤ 13 }
-        ensures { result ≡ start (faces_of (code_of self.kind)) self.width self.height level }
-    {
-        let mut at = 0;
-        for m in 0..level {
-            at += self.size_at(m);
-        }
-        at
-    }
-
     // The whole chain's texels.
     #[tactic(auto, unfolding(rules::specs::Sizes::count))]
     pub fn count(self) -> usize
         ensures { result ≡ count (faces_of (code_of self.kind)) self.width self.height }
     {
-        self.start_of(self.top_level() + 1)
+        let number = self.top_level();
+        PictureLevel {
+            picture: self,
+            number,
+        }
+        .end()
     }
 
     // 6: level above the top level.

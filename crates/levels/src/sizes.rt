@@ -1,17 +1,11 @@
-// Sides and level numbers of any picture, and the call that answers a level's sizes.
+// The top level of any picture, and the call that answers a level's sizes.
 ghost use Rattle.std.specs.Prelude.{◌≡◌};
-ghost use Rattle.rules.specs.Sizes.{side_at, log2, top};
+ghost use Rattle.rules.specs.Sizes.{log2, top};
 ghost use Rattle.rules.specs.Answers.{level_sizes_answer};
 
+use crate::level::PictureLevel;
 use crate::picture::Picture;
 use rules::{LevelSizes, Refusal};
-
-// A side at a level: shifted right by its number, and at least 1.
-pub fn side_at(side: u32, level: u32) -> u32
-    ensures { result ≡ side_at level side }
-{
-    (side >> level.min(31)).max(1)
-}
 
 // floor(log2 n), and 0 at 0.
 fn log2(n: u32) -> u32
@@ -35,10 +29,14 @@ pub fn level_sizes(kind: u32, width: u32, height: u32, level: u32) -> Result<Lev
 {
     let picture = Picture::new(kind, width, height)?;
     picture.check_level(level)?;
+    let at = PictureLevel {
+        picture,
+        number: level,
+    };
     Ok(LevelSizes {
-        start: picture.start_of(level),
-        width: picture.width_at(level),
-        height: picture.height_at(level),
+        start: at.start(),
+        width: at.width(),
+        height: at.height(),
         total: picture.count(),
     })
 }

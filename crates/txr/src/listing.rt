@@ -10,6 +10,7 @@ use crate::file::{load, picture_in};
 use crate::page::Page;
 use levels::chain::generate_mipmaps;
 use levels::lent::Chain;
+use levels::level::PictureLevel;
 use levels::picture::Picture;
 use rules::Refusal;
 
@@ -19,9 +20,12 @@ fn level_line(chain: Chain, m: u32, page: &mut Page)
     requires page { length page.old + 24 ≤ 512 }
     ensures { page.new ≡ page.old ++ level_line (code_of chain.entry.picture.kind) chain.entry.picture.width chain.entry.picture.height chain.entry.texels.now m }
 {
-    let picture = chain.picture;
-    let first = chain.texels[picture.start_of(m)];
-    page.line(m, picture.width_at(m), picture.height_at(m), first);
+    let level = PictureLevel {
+        picture: chain.picture,
+        number: m,
+    };
+    let first = chain.texels[level.start()];
+    page.line(m, level.width(), level.height(), first);
 }
 
 // One line a level.

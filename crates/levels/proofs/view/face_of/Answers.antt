@@ -15,7 +15,7 @@ use Rattle.levels.proofs.view.face_of.Goals.{After-plane}
 -- where the level starts, and that the face ends within the buffer
 ends : (c : goal.After-plane)
     → let a = c.args in
-    let size = c.height_at.result * c.width_at.result in
+    let size = c.height.result * c.width.result in
     (c.plane.result.start ≡ start (faces_of a.kind) a.width a.height a.level)
     × (size ≡ side_at a.level a.height * side_at a.level a.width)
     × (c.plane.result.start + a.face * size + size ≤ length a.texels.now)
@@ -25,7 +25,7 @@ ends c =
     let given = c.in_ok-layout.ensures in
     let is = given.is in
     let at : c.plane.result.start ≡ start (faces_of a.kind) a.width a.height a.level = rw c.plane.ensures (rw (is.0, is.1, is.2)) in
-    let e : c.height_at.result * c.width_at.result ≡ side_at a.level a.height * side_at a.level a.width = rw (c.height_at.ensures, c.width_at.ensures, is.1, is.2) in
+    let e : c.height.result * c.width.result ≡ side_at a.level a.height * side_at a.level a.width = rw (c.height.ensures, c.width.ensures, is.1, is.2) in
     let below = rw (is.1, is.2) at c.in_ok-check_level.ensures.below in
     let face = rw is.0 at c.in_ok-check_face.ensures.below in
     (at, e, rw (at, e) (le_trans (face-end (faces_of a.kind) a.width a.height a.level a.face below.0 face) given.room))

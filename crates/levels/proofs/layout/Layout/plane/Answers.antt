@@ -9,4 +9,4 @@ bounds-self-level c = let p = c.args.self.now.picture in let s = p.sides in omeg
 
 pub returns : goal.returns
 unfolding plane_of
-returns c = rw (c.faces.ensures, c.width_at.ensures, c.height_at.ensures, c.args.self.now.started.at _ c.requires)
+returns c = rw (c.faces.ensures, c.width.ensures, c.height.ensures, c.args.self.now.started.at _ c.requires)
