@@ -65,7 +65,7 @@ impl Layout {
 }
 
 // Writes the starts of a picture's levels in their order, and answers the whole chain's texels. Up to the top level the larger side
-// only halves: with both sides held to 1 the walk takes 143 instructions at 512 square, and so 125.
+// only halves: held to 1 as well, it made the walk take 143 instructions at 512 square in place of 125.
 fn starts_of(picture: Picture, starts: &mut [u32; 13]) -> u32
     ensures total { result ≡ count (faces_of (code_of picture.kind)) picture.width picture.height }
     ensures leaves { starts.new ≡ over 0 starts.old (top picture.width picture.height + 1) (start (faces_of (code_of picture.kind)) picture.width picture.height) }
