@@ -7,11 +7,11 @@ ghost use Rattle.places.specs.Spots.{sizes_taken, OnCube};
 use choice::pick;
 use rules::{Spot, Vector};
 
-// Where a direction meets the cube, and whether it is a direction that is taken: no Option, since four lanes' places are joined with no branch.
+// A place on the cube that a taken direction meets.
 #[derive(Clone, Copy)]
-pub struct Meeting {
+pub struct Seen {
     pub spot: Spot,
-    pub taken: bool,
+    pub ghost on: { OnCube spot },
 }
 
 // 2^-60 and 2^60.
@@ -25,6 +25,17 @@ fn magnitude(x: f32) -> f32
     ensures { result ≡ magnitude_of x }
 {
     if x < 0.0 { -x } else { x }
+}
+
+// The magnitudes of a direction's components.
+fn sizes(d: Vector<f32>) -> Vector<f32>
+    ensures { (result.x ≡ magnitude_of d.x) × (result.y ≡ magnitude_of d.y) × (result.z ≡ magnitude_of d.z) }
+{
+    Vector {
+        x: magnitude(d.x),
+        y: magnitude(d.y),
+        z: magnitude(d.z),
+    }
 }
 
 // Whether each magnitude is at most 2^60, which neither a NaN's nor an infinity's is, and one is 2^-60 at least.
@@ -60,10 +71,10 @@ fn on_face(q: f32, major: f32) -> f32
 
 // X if |x| >= |y| and |x| >= |z|; else Y if |y| > |x| and |y| >= |z|; else Z.
 // (u, v) before scaling: (-z*sx, -y), (x, z*sy), (x*sz, -y).
-fn spot(d: Vector<f32>, size: Vector<f32>) -> Spot
-    requires { (size.x ≡ magnitude_of d.x) × (size.y ≡ magnitude_of d.y) × (size.z ≡ magnitude_of d.z) }
+fn spot(d: Vector<f32>) -> Spot
     ensures { result ≡ spot_of d.x d.y d.z }
 {
+    let size = sizes(d);
     let on_x = (size.x >= size.y) & (size.x >= size.z);
     let on_y = (size.y > size.x) & (size.y >= size.z);
     let q = pick(on_x, -d.z * sign(d.x), pick(on_y, d.x, d.x * sign(d.z)));
@@ -76,17 +87,20 @@ fn spot(d: Vector<f32>, size: Vector<f32>) -> Spot
     }
 }
 
-// Where a direction meets the cube, and whether it is taken: no component is a NaN or an infinity, and the largest magnitude lies in 2^-60 to 2^60.
-pub fn meet(x: f32, y: f32, z: f32) -> Meeting
-    ensures { (result.spot ≡ spot_of x y z) × (result.taken ≡ direction_taken x y z) × (T (direction_taken x y z) → OnCube (spot_of x y z)) }
+// Whether a direction is taken: no component is a NaN or an infinity, and the largest magnitude lies in 2^-60 to 2^60.
+pub fn direction_taken(x: f32, y: f32, z: f32) -> bool
+    ensures { result ≡ direction_taken x y z }
 {
-    let size = Vector {
-        x: magnitude(x),
-        y: magnitude(y),
-        z: magnitude(z),
-    };
-    Meeting {
-        spot: spot(Vector { x, y, z }, size),
-        taken: sizes_taken(size),
+    let size = sizes(Vector { x, y, z });
+    sizes_taken(size)
+}
+
+// Where a direction that is taken meets the cube.
+pub fn meet(x: f32, y: f32, z: f32) -> Seen
+    requires { T (direction_taken x y z) }
+    ensures { result.spot ≡ spot_of x y z }
+{
+    Seen {
+        spot: spot(Vector { x, y, z }),
     }
 }

@@ -21,8 +21,8 @@ returns c =
       c.pick.ensures,
       c.sign-2.ensures,
       c.sign.ensures,
-      c.requires.0,
-      c.requires.1,
-      c.requires.2,
+      c.sizes-size.ensures.0,
+      c.sizes-size.ensures.1,
+      c.sizes-size.ensures.2,
     )
     (spot-chosen c.args.d.x c.args.d.y c.args.d.z)
