@@ -36,6 +36,7 @@ fn greatest_four(footprint: f32, top: Top) -> u32
 }
 
 // The greatest m with 4^m at most max(footprint, 1), lowered to the top level.
+#[tactic(auto, unfolding(rules::specs::Footprint::mip_level_of))]
 pub fn mip_level(width: Side, height: Side, top: Top, steps: Lanes) -> u32
     requires { top.level ≡ top_of width.texels height.texels }
     ensures { result ≡ mip_level_of width.texels height.texels steps }
