@@ -7,13 +7,11 @@ use lib.ListN.{length}
 use Rattle.rules.specs.Lanes.{Lanes}
 use Rattle.rules.specs.Lanes.{Wholes}
 use Rattle.rules.specs.declared.Mode.{Mode}
+use Rattle.rules.specs.Lanes.{Spots}
 use Rattle.rules.specs.Kinds.{cubemap, faces_of}
 use Rattle.rules.specs.Sizes.{top}
 use Rattle.rules.specs.Places.{plane_of, nearest_place}
 use Rattle.rules.specs.Cubemap.{cube_place}
-use Rattle.rules.specs.Answers.{spots_of}
-use Rattle.rules.specs.declared.Four.{Four}
-use Rattle.places.specs.declared.face.Seen.{Seen}
 use Rattle.rules.proofs.Sides.{side-pos, side-le}
 use Rattle.rules.proofs.Bounds.{level-end, count_most}
 use Rattle.reduce.specs.Levels.{Sides}
@@ -22,7 +20,7 @@ use Rattle.rules.proofs.Inside.{nearest-reads, corners-read}
 use Rattle.places.proofs.CubePlaces.{spot-reads}
 use Rattle.places.specs.Sized.{Sized, Below}
 use Rattle.places.specs.Stands.{axes_of}
-use Rattle.lane.specs.Cubes.{spots_met, cube_four}
+use Rattle.lane.specs.Cubes.{AllOnCube, cube_four}
 use Rattle.lane.specs.Reading.{nearest_four, places_of, squares_at, Inside, AllWithin}
 
 -- a level of a picture
@@ -68,12 +66,12 @@ module _ {kind w h : ℕ} (l : List ℕ) (m : ℕ) (c : Chained kind w h (length
       }
 
 -- on the cube, at every level
-pub cubes-inside : {w h : ℕ} (l : List ℕ) (met : Four Seen) (m : Wholes) → Chained cubemap w h (length l) → Inside l (cube_four w h (spots_met met) m)
-unfolding cube_four cube_place spots_of
-cubes-inside l met m c =
+pub cubes-inside : {w h : ℕ} (l : List ℕ) (s : Spots) (m : Wholes) → Chained cubemap w h (length l) → AllOnCube s → Inside l (cube_four w h s m)
+unfolding cube_four cube_place
+cubes-inside l s m c on =
     record {
-      a = (spot-reads _ m.a c met.a.on).lent;
-      b = (spot-reads _ m.b c met.b.on).lent;
-      c = (spot-reads _ m.c c met.c.on).lent;
-      d = (spot-reads _ m.d c met.d.on).lent;
+      a = (spot-reads _ m.a c on.a).lent;
+      b = (spot-reads _ m.b c on.b).lent;
+      c = (spot-reads _ m.c c on.c).lent;
+      d = (spot-reads _ m.d c on.d).lent;
     }

@@ -7,10 +7,8 @@ use Rattle.rules.specs.Kinds.{cubemap}
 use Rattle.rules.specs.Sizes.{top}
 use Rattle.rules.specs.Places.{plane_of}
 use Rattle.rules.specs.Cubemap.{cube_place, pairing_of, lerp_of}
-use Rattle.rules.specs.Answers.{spots_of}
 use Rattle.choice.specs.Each.{InEach, each_of, each_two}
 use Rattle.places.specs.Spots.{OnCube}
-use Rattle.places.specs.declared.face.Seen.{Seen}
 
 -- lane by lane
 abbrev pub spots_in : Spots → Four Spot
@@ -25,10 +23,6 @@ spots_in s =
 -- each lies on the cube
 abbrev pub AllOnCube : Spots → Type 0
 AllOnCube s = InEach OnCube (spots_in s)
-
--- side by side
-abbrev pub spots_met : Four Seen → Spots
-spots_met met = spots_of met.a.spot met.b.spot met.c.spot met.d.spot
 
 -- where a lane reads a level that is lowered to the top level
 abbrev pub lowered_place : ℕ → ℕ → Spot → ℕ → ℕ

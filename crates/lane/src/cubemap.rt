@@ -3,11 +3,11 @@ ghost use Rattle.rules.specs.Kinds.{cubemap, code_of};
 ghost use Rattle.std.specs.Prelude.{◌≡◌};
 
 use crate::level::level_at;
+use crate::spots::Seen;
 use choice::lanes::{each, pairs};
 use levels::layout::Layout;
 use places::cube::cube_texel;
-use places::face::Seen;
-use rules::{Four, Wholes};
+use rules::{Four, Spot, Wholes};
 
 // A cubemap of which it is known where each level starts.
 #[derive(Clone, Copy)]
@@ -20,25 +20,27 @@ impl<'a> Cube<'a> {
     ghost use Rattle.std.specs.Prelude.{◌≤◌, suc};
     ghost use Rattle.rules.specs.Sizes.{top};
     ghost use Rattle.places.specs.Sized.{Below};
-    ghost use Rattle.lane.specs.Cubes.{lowered_place, spots_met, cube_four};
+    ghost use Rattle.places.specs.Spots.{OnCube};
+    ghost use Rattle.lane.specs.Cubes.{lowered_place, cube_four};
 
     // Where a lane reads a level of the picture: the nearest texel on its face.
-    fn place(self, met: Seen, level: u32) -> usize
-        requires { level ≤ top self.layout.now.picture.width self.layout.now.picture.height }
-        ensures { result ≡ lowered_place self.entry.layout.now.picture.width self.entry.layout.now.picture.height met.spot level }
+    fn place(self, s: Spot, level: u32) -> usize
+        requires { OnCube s × (level ≤ top self.layout.now.picture.width self.layout.now.picture.height) }
+        ensures { result ≡ lowered_place self.entry.layout.now.picture.width self.entry.layout.now.picture.height s level }
     {
         let on = level_at(self.layout, level);
-        let x = cube_texel(met.spot.u, on.width());
-        let y = cube_texel(met.spot.v, on.height());
-        on.place(met.spot.face as usize, x, y)
+        let x = cube_texel(s.u, on.width());
+        let y = cube_texel(s.v, on.height());
+        on.place(s.face as usize, x, y)
     }
 
     // Where four do, each at its own level.
-    #[tactic(auto, unfolding(crate::specs::Cubes::cube_four, rules::specs::Answers::spots_of))]
-    pub fn places(self, met: Four<Seen>, levels: Wholes) -> Four<usize>
+    #[tactic(auto, unfolding(crate::specs::Cubes::cube_four))]
+    pub fn places(self, met: Seen, levels: Wholes) -> Four<usize>
         requires { Below (suc (top self.layout.now.picture.width self.layout.now.picture.height)) levels }
-        ensures { result ≡ cube_four self.entry.layout.now.picture.width self.entry.layout.now.picture.height (spots_met met) levels }
+        ensures { result ≡ cube_four self.entry.layout.now.picture.width self.entry.layout.now.picture.height met.spots levels }
     {
-        each(pairs(met, levels), |(met, level)| self.place(met, level))
+        let by_lane = pairs(met.lanes(), levels);
+        each(by_lane, |(s, level)| self.place(s, level))
     }
 }

@@ -1,18 +1,46 @@
-// Four places on the cube, side by side.
-ghost use Rattle.std.specs.Prelude.{◌≡◌};
-ghost use Rattle.lane.specs.Cubes.{AllOnCube, spots_met};
+// Four places on the cube.
+ghost use Rattle.lane.specs.Cubes.{AllOnCube};
 
-use choice::lanes::each;
-use places::face::Seen;
-use rules::{Four, Spots};
+use choice::lanes::{each, pairs};
+use rules::{Four, Spot, Spots};
 
-#[tactic(auto, unfolding(rules::specs::Answers::spots_of))]
-pub fn spots_of(met: Four<Seen>) -> Spots
-    ensures { (result ≡ spots_met met) × AllOnCube result }
-{
-    Spots {
-        face: each(met, |m| m.spot.face),
-        u: each(met, |m| m.spot.u),
-        v: each(met, |m| m.spot.v),
+// Where four directions that are taken meet the cube, side by side.
+#[derive(Clone, Copy)]
+pub struct Seen {
+    pub spots: Spots,
+    pub ghost on: { AllOnCube spots },
+}
+
+impl Seen {
+    ghost use Rattle.std.specs.Prelude.{◌≡◌};
+    ghost use Rattle.rules.specs.Answers.{spots_of};
+    ghost use Rattle.choice.specs.Each.{InEach};
+    ghost use Rattle.places.specs.Spots.{OnCube};
+    ghost use Rattle.lane.specs.Cubes.{spots_in};
+
+    // Four places, side by side.
+    #[tactic(auto, unfolding(rules::specs::Answers::spots_of))]
+    pub fn new(s: Four<Spot>) -> Seen
+        requires { InEach OnCube s }
+        ensures { result.spots ≡ spots_of s.a s.b s.c s.d }
+    {
+        Seen {
+            spots: Spots {
+                face: each(s, |k| k.face),
+                u: each(s, |k| k.u),
+                v: each(s, |k| k.v),
+            },
+        }
+    }
+
+    // Lane by lane.
+    pub fn lanes(self) -> Four<Spot>
+        ensures { result ≡ spots_in self.spots }
+    {
+        let s = self.spots;
+        each(
+            pairs(s.face, pairs(s.u, s.v)),
+            |(face, (u, v))| Spot { face, u, v },
+        )
     }
 }

@@ -4,12 +4,12 @@ ghost use Rattle.std.specs.Float.Ieee.Scale.{finite};
 ghost use Rattle.rules.specs.Sizes.{top};
 ghost use Rattle.rules.proofs.RefusingLookups.{EachLane};
 ghost use Rattle.places.specs.Sized.{Below};
-ghost use Rattle.lane.specs.Cubes.{spots_met, cube_four, two_levels, lerp_lanes, lerp_colours};
+ghost use Rattle.lane.specs.Cubes.{cube_four, two_levels, lerp_lanes, lerp_colours};
 
 use crate::cubemap::Cube;
+use crate::spots::Seen;
 use choice::lanes::{each, pairs};
 use places::cube::{lerp, pairing};
-use places::face::Seen;
 use places::level::Top;
 use rules::{Directions, Four, Lanes, Pairing, Wholes};
 
@@ -28,13 +28,9 @@ pub fn two_levels(levels: Lanes, top: Top) -> Pairing<Wholes, Lanes>
 }
 
 // Where four lanes read, at the lower levels and at the upper ones.
-pub fn level_places(
-    cube: Cube,
-    met: Four<Seen>,
-    m: Pairing<Wholes, Lanes>,
-) -> Pairing<Four<usize>, Lanes>
+pub fn level_places(cube: Cube, met: Seen, m: Pairing<Wholes, Lanes>) -> Pairing<Four<usize>, Lanes>
     requires { Below (suc (top cube.layout.now.picture.width cube.layout.now.picture.height)) m.low × Below (suc (top cube.layout.now.picture.width cube.layout.now.picture.height)) m.high }
-    ensures { result ≡ record { low = cube_four cube.entry.layout.now.picture.width cube.entry.layout.now.picture.height (spots_met met) m.low; high = cube_four cube.entry.layout.now.picture.width cube.entry.layout.now.picture.height (spots_met met) m.high; part = m.part } }
+    ensures { result ≡ record { low = cube_four cube.entry.layout.now.picture.width cube.entry.layout.now.picture.height met.spots m.low; high = cube_four cube.entry.layout.now.picture.width cube.entry.layout.now.picture.height met.spots m.high; part = m.part } }
 {
     Pairing {
         low: cube.places(met, m.low),

@@ -7,13 +7,6 @@ ghost use Rattle.places.specs.Spots.{sizes_taken, OnCube};
 use choice::pick;
 use rules::{Spot, Vector};
 
-// A place on the cube that a taken direction meets.
-#[derive(Clone, Copy)]
-pub struct Seen {
-    pub spot: Spot,
-    pub ghost on: { OnCube spot },
-}
-
 // 2^-60 and 2^60.
 const LOW: f32 = 0.0000000000000000008673617379884035;
 
@@ -46,6 +39,14 @@ fn sizes_taken(size: Vector<f32>) -> bool
     (size.x <= HIGH) & ((size.y <= HIGH) & ((size.z <= HIGH) & low))
 }
 
+// Whether a direction is taken: no component is a NaN or an infinity, and the largest magnitude lies in 2^-60 to 2^60.
+pub fn direction_taken(x: f32, y: f32, z: f32) -> bool
+    ensures { result ≡ direction_taken x y z }
+{
+    let size = sizes(Vector { x, y, z });
+    sizes_taken(size)
+}
+
 // 1 for a component >= 0, -0 included, and -1 for one below.
 #[tactic(auto, unfolding(rules::specs::Faces::sign_of))]
 fn sign(x: f32) -> f32
@@ -69,11 +70,14 @@ fn on_face(q: f32, major: f32) -> f32
     0.5 * (q / major + 1.0)
 }
 
-// X if |x| >= |y| and |x| >= |z|; else Y if |y| > |x| and |y| >= |z|; else Z.
+// Where a direction that is taken meets the cube: X if |x| >= |y| and |x| >= |z|; else Y if |y| > |x| and |y| >= |z|; else Z.
 // (u, v) before scaling: (-z*sx, -y), (x, z*sy), (x*sz, -y).
-fn spot(d: Vector<f32>) -> Spot
-    ensures { result ≡ spot_of d.x d.y d.z }
+pub fn meet(x: f32, y: f32, z: f32) -> Spot
+    requires { T (direction_taken x y z) }
+    ensures at { result ≡ spot_of x y z }
+    ensures on { OnCube result }
 {
+    let d = Vector { x, y, z };
     let size = sizes(d);
     let on_x = (size.x >= size.y) & (size.x >= size.z);
     let on_y = (size.y > size.x) & (size.y >= size.z);
@@ -84,23 +88,5 @@ fn spot(d: Vector<f32>) -> Spot
         face: pick(on_x, odd(d.x), pick(on_y, 2 + odd(d.y), 4 + odd(d.z))),
         u: on_face(q, major),
         v: on_face(p, major),
-    }
-}
-
-// Whether a direction is taken: no component is a NaN or an infinity, and the largest magnitude lies in 2^-60 to 2^60.
-pub fn direction_taken(x: f32, y: f32, z: f32) -> bool
-    ensures { result ≡ direction_taken x y z }
-{
-    let size = sizes(Vector { x, y, z });
-    sizes_taken(size)
-}
-
-// Where a direction that is taken meets the cube.
-pub fn meet(x: f32, y: f32, z: f32) -> Seen
-    requires { T (direction_taken x y z) }
-    ensures { result.spot ≡ spot_of x y z }
-{
-    Seen {
-        spot: spot(Vector { x, y, z }),
     }
 }

@@ -37,7 +37,7 @@ invariant_of-cube c = record { is = cube-facts _ (told_none _ (sym c.in_ok-check
 pub rgb_four-requires : goal.rgb_four-requires
 rgb_four-requires c =
     let is = c.in_ok-layout.ensures.is in
-    subst (Inside _) (sym (rw (is.1, is.2) at c.places.ensures)) (cubes-inside _ c.in_ok-met.met _ (cube-chained (facts (goal.at.rgb_four-requires c).In_ok-met)))
+    subst (Inside _) (sym (rw (is.1, is.2) at c.places.ensures)) (cubes-inside _ _ _ (cube-chained (facts (goal.at.rgb_four-requires c).In_ok-met)) c.in_ok-met.met.on)
 
 pub returns : goal.returns
 returns c =

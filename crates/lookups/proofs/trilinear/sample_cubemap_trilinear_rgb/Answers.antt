@@ -36,13 +36,13 @@ pub rgb_four-low-requires : goal.rgb_four-low-requires
 rgb_four-low-requires c =
     let is = c.in_ok-layout.ensures.is in
     let e = rw (is.1, is.2) at c.level_places-at.ensures in
-    subst (Inside _) (sym (ap (λ p. p.low) e)) (cubes-inside _ c.in_ok-met.met _ (cube-chained (facts (goal.at.rgb_four-low-requires c).In_ok-check_finite)))
+    subst (Inside _) (sym (ap (λ p. p.low) e)) (cubes-inside _ _ _ (cube-chained (facts (goal.at.rgb_four-low-requires c).In_ok-check_finite)) c.in_ok-met.met.on)
 
 pub rgb_four-high-requires : goal.rgb_four-high-requires
 rgb_four-high-requires c =
     let is = c.in_ok-layout.ensures.is in
     let e = rw (is.1, is.2) at c.level_places-at.ensures in
-    subst (Inside _) (sym (ap (λ p. p.high) e)) (cubes-inside _ c.in_ok-met.met _ (cube-chained (facts (goal.at.rgb_four-high-requires c).In_ok-check_finite)))
+    subst (Inside _) (sym (ap (λ p. p.high) e)) (cubes-inside _ _ _ (cube-chained (facts (goal.at.rgb_four-high-requires c).In_ok-check_finite)) c.in_ok-met.met.on)
 
 pub returns : goal.returns
 returns c =

@@ -14,7 +14,7 @@ faces c = rw (c.level_at-on.ensures, c.args.self.is) (six-faces _ _ _)
 pub place-requires : goal.place-requires
 place-requires c =
     record {
-      face = subst (λ (k : ℕ). c.args.met.spot.face < k) (sym (faces (goal.at.place-requires c).After-level_at-on)) c.args.met.on.side;
+      face = subst (λ (k : ℕ). c.args.s.face < k) (sym (faces (goal.at.place-requires c).After-level_at-on)) c.requires.0.side;
       across = rw (← c.width.ensures) c.cube_texel-x.ensures.1;
       down = rw (← c.height.ensures) c.cube_texel-y.ensures.1;
     }
@@ -30,5 +30,5 @@ returns c =
       c.height.ensures,
       c.level_at-on.ensures,
       c.args.self.is,
-      min-eq_left c.requires,
+      min-eq_left c.requires.1,
     )
