@@ -27,8 +27,8 @@ pub fn squares(
     requires { Below on.plane.faces faces × Coordinates u v }
     ensures { result ≡ squares_at on.plane faces by.s by.t u v }
 {
-    let x = four_axes(by.s, u, on.plane.width);
-    let y = four_axes(by.t, v, on.plane.height);
+    let x = four_axes(by.s, u, on.width());
+    let y = four_axes(by.t, v, on.height());
     Corners {
         p00: places(on, faces, x.first, y.first),
         p10: places(on, faces, x.second, y.first),

@@ -1,5 +1,5 @@
-// A level of a chain of which it is known where each level starts.
-ghost use Rattle.std.specs.Prelude.{◌≡◌, ◌≤◌, min};
+// A level of a chain of which it is known where each level starts: a `Plane` of levels as a `Level` of places, which do not stand on each other.
+ghost use Rattle.std.specs.Prelude.{◌≡◌, ◌≤◌};
 ghost use Rattle.rules.specs.Kinds.{code_of};
 ghost use Rattle.rules.specs.Sizes.{top};
 ghost use Rattle.rules.specs.Places.{plane_of};
@@ -14,14 +14,5 @@ pub fn level_at(layout: &Layout, level: u32) -> Level
 {
     Level {
         plane: layout.plane(level),
-    }
-}
-
-// A level that is lowered to the top level.
-pub fn lowered(layout: &Layout, level: u32) -> Level
-    ensures { result.plane ≡ plane_of (code_of layout.now.picture.kind) layout.now.picture.width layout.now.picture.height (min level (top layout.now.picture.width layout.now.picture.height)) }
-{
-    Level {
-        plane: layout.lowered(level),
     }
 }

@@ -14,7 +14,7 @@ pub fn nearest_places(on: Level, by: Wrapping, u: Lanes, v: Lanes) -> Four<usize
     requires { Coordinates u v }
     ensures { result ≡ nearest_four on.plane by.s by.t u v }
 {
-    let x = nearest_four(by.s, u, on.plane.width);
-    let y = nearest_four(by.t, v, on.plane.height);
+    let x = nearest_four(by.s, u, on.width());
+    let y = nearest_four(by.t, v, on.height());
     places(on, first_faces(), x, y)
 }

@@ -22,7 +22,7 @@ pub fn rgb(texel: u32) -> Rgb
 
 // A texel's alpha.
 #[tactic(auto, unfolding(rules::specs::Places::opacity_of))]
-pub fn opacity(texel: u32) -> f32
+fn opacity(texel: u32) -> f32
     ensures { result ≡ opacity_of texel }
 {
     unpack(alpha(texel))

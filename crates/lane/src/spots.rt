@@ -1,29 +1,46 @@
-// Four places on the cube, side by side and lane by lane.
-ghost use Rattle.std.specs.Prelude.{◌≡◌};
-ghost use Rattle.rules.specs.Answers.{spots_of};
-ghost use Rattle.lane.specs.Cubes.{spots_in};
+// Four places on the cube.
+ghost use Rattle.lane.specs.Cubes.{AllOnCube};
 
 use choice::lanes::{each, pairs};
 use rules::{Four, Spot, Spots};
 
-// Lane by lane.
-pub fn spots_in(s: Spots) -> Four<Spot>
-    ensures { result ≡ spots_in s }
-{
-    each(
-        pairs(s.face, pairs(s.u, s.v)),
-        |(face, (u, v))| Spot { face, u, v },
-    )
+// Where four directions that are taken meet the cube, side by side.
+#[derive(Clone, Copy)]
+pub struct Seen {
+    pub spots: Spots,
+    pub ghost on: { AllOnCube spots },
 }
 
-// Side by side.
-#[tactic(auto, unfolding(rules::specs::Answers::spots_of))]
-pub fn spots_of(s: Four<Spot>) -> Spots
-    ensures { result ≡ spots_of s.a s.b s.c s.d }
-{
-    Spots {
-        face: each(s, |k| k.face),
-        u: each(s, |k| k.u),
-        v: each(s, |k| k.v),
+impl Seen {
+    ghost use Rattle.std.specs.Prelude.{◌≡◌};
+    ghost use Rattle.rules.specs.Answers.{spots_of};
+    ghost use Rattle.choice.specs.Each.{InEach};
+    ghost use Rattle.places.specs.Spots.{OnCube};
+    ghost use Rattle.lane.specs.Cubes.{spots_in};
+
+    // Four places, side by side.
+    #[tactic(auto, unfolding(rules::specs::Answers::spots_of))]
+    pub fn new(s: Four<Spot>) -> Seen
+        requires { InEach OnCube s }
+        ensures { result.spots ≡ spots_of s.a s.b s.c s.d }
+    {
+        Seen {
+            spots: Spots {
+                face: each(s, |k| k.face),
+                u: each(s, |k| k.u),
+                v: each(s, |k| k.v),
+            },
+        }
+    }
+
+    // Lane by lane.
+    pub fn lanes(self) -> Four<Spot>
+        ensures { result ≡ spots_in self.spots }
+    {
+        let s = self.spots;
+        each(
+            pairs(s.face, pairs(s.u, s.v)),
+            |(face, (u, v))| Spot { face, u, v },
+        )
     }
 }

@@ -1,38 +1,40 @@
 // The trilinear cubemap lookup: two levels, blended by the fraction between them.
-ghost use Rattle.std.specs.Prelude.{◌≡◌, suc, ◌≤◌};
+ghost use Rattle.std.specs.Prelude.{◌≡◌, suc};
 ghost use Rattle.std.specs.Float.Ieee.Scale.{finite};
 ghost use Rattle.rules.specs.Sizes.{top};
 ghost use Rattle.rules.proofs.RefusingLookups.{EachLane};
 ghost use Rattle.places.specs.Sized.{Below};
-ghost use Rattle.lane.specs.Cubes.{AllOnCube, cube_four, two_levels, lerp_lanes, lerp_colours};
+ghost use Rattle.lane.specs.Cubes.{cube_four, two_levels, lerp_lanes, lerp_colours};
 
 use crate::cubemap::Cube;
+use crate::spots::Seen;
 use choice::lanes::{each, pairs};
 use places::cube::{lerp, pairing};
-use rules::{Directions, Four, Lanes, Pairing, Spots, Wholes};
+use places::level::Top;
+use rules::{Directions, Four, Lanes, Pairing, Wholes};
 
 // The two levels of four lanes' fractional levels, and how far each lane lies between its two.
 #[tactic(auto, unfolding(crate::specs::Cubes::two_levels))]
-pub fn two_levels(levels: Lanes, top: usize) -> Pairing<Wholes, Lanes>
-    requires { EachLane finite levels × (top ≤ 12) }
-    ensures { (result ≡ two_levels levels top) × Below (suc top) result.low × Below (suc top) result.high }
+pub fn two_levels(levels: Lanes, top: Top) -> Pairing<Wholes, Lanes>
+    requires { EachLane finite levels }
+    ensures { (result ≡ two_levels levels top.level) × Below (suc top.level) result.low × Below (suc top.level) result.high }
 {
     let m = each(levels, |x| pairing(x, top));
     Pairing {
-        low: each(m, |p| p.low as u32),
-        high: each(m, |p| p.high as u32),
+        low: each(m, |p| p.low),
+        high: each(m, |p| p.high),
         part: each(m, |p| p.part),
     }
 }
 
 // Where four lanes read, at the lower levels and at the upper ones.
-pub fn level_places(cube: Cube, s: Spots, m: Pairing<Wholes, Lanes>) -> Pairing<Four<usize>, Lanes>
-    requires { AllOnCube s × Below (suc (top cube.layout.now.picture.width cube.layout.now.picture.height)) m.low × Below (suc (top cube.layout.now.picture.width cube.layout.now.picture.height)) m.high }
-    ensures { result ≡ record { low = cube_four cube.entry.layout.now.picture.width cube.entry.layout.now.picture.height s m.low; high = cube_four cube.entry.layout.now.picture.width cube.entry.layout.now.picture.height s m.high; part = m.part } }
+pub fn level_places(cube: Cube, met: Seen, m: Pairing<Wholes, Lanes>) -> Pairing<Four<usize>, Lanes>
+    requires { Below (suc (top cube.layout.now.picture.width cube.layout.now.picture.height)) m.low × Below (suc (top cube.layout.now.picture.width cube.layout.now.picture.height)) m.high }
+    ensures { result ≡ record { low = cube_four cube.entry.layout.now.picture.width cube.entry.layout.now.picture.height met.spots m.low; high = cube_four cube.entry.layout.now.picture.width cube.entry.layout.now.picture.height met.spots m.high; part = m.part } }
 {
     Pairing {
-        low: cube.places(s, m.low),
-        high: cube.places(s, m.high),
+        low: cube.places(met, m.low),
+        high: cube.places(met, m.high),
         part: m.part,
     }
 }

@@ -18,7 +18,7 @@ pub struct Layout {
 }
 
 impl Layout {
-    ghost use Rattle.std.specs.Prelude.{◌≡◌, ◌≤◌, min, IfOk};
+    ghost use Rattle.std.specs.Prelude.{◌≡◌, ◌≤◌, IfOk};
     ghost use Rattle.rules.specs.Sizes.{top, count};
     ghost use Rattle.rules.specs.Places.{plane_of};
     ghost use Rattle.rules.specs.Refusals.{chain_refusal};
@@ -54,13 +54,6 @@ impl Layout {
             width: at.width() as usize,
             height: at.height() as usize,
         }
-    }
-
-    // A level, lowered to the top level.
-    pub fn lowered(&self, level: u32) -> Plane
-        ensures { result ≡ plane_of (code_of self.now.picture.kind) self.now.picture.width self.now.picture.height (min level (top self.now.picture.width self.now.picture.height)) }
-    {
-        self.plane(level.min(self.picture.top_level()))
     }
 }
 

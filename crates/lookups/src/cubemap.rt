@@ -2,7 +2,8 @@
 ghost use Rattle.std.specs.Prelude.{◌≡◌};
 ghost use Rattle.rules.specs.Answers.{cubemap_answer};
 
-use crate::facing::cubemap_uv_from_normal;
+use crate::facing::facing;
+use choice::lanes::each;
 use lane::cubemap::Cube;
 use lane::pixel::rgb_four;
 use levels::layout::Layout;
@@ -22,7 +23,9 @@ pub fn sample_cubemap_rgb(
 {
     let layout = Layout::new(kind, width, height, texels.len())?;
     layout.picture.check_cubemap()?;
-    let spots = cubemap_uv_from_normal(directions)?;
+    let met = facing(directions)?;
+    let top = layout.picture.top_level();
+    let lowered = each(levels, |level| level.min(top));
     let cube = Cube { layout: &layout };
-    Ok(rgb_four(texels, cube.lowered_places(spots, levels)))
+    Ok(rgb_four(texels, cube.places(met, lowered)))
 }

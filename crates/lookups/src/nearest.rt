@@ -1,5 +1,5 @@
 // The nearest lookup of four lanes, at the level that their steps ask for.
-ghost use Rattle.std.specs.Prelude.{◌≡◌};
+ghost use Rattle.std.specs.Prelude.{◌≡◌, length};
 ghost use Rattle.rules.specs.Refusals.{sample4_refusal};
 ghost use Rattle.rules.specs.Answers.{answer, refused, sample4_rgb_answer, sample4_alpha_answer};
 ghost use Rattle.lookups.specs.Reads.{sample4_four};
@@ -10,6 +10,7 @@ use lane::nearest::nearest_places;
 use lane::pixel::{opacity_four, rgb_four};
 use levels::layout::Layout;
 use places::refusals::{check_coordinates, check_finite};
+use places::side::Side;
 use places::wrap::Wrapping;
 use rules::{Directions, Four, Lanes, Refusal, Sampler};
 
@@ -19,19 +20,21 @@ fn sample4_places(
     kind: u32,
     width: u32,
     height: u32,
-    n: usize,
+    texels: &[u32],
     sampler: Sampler,
     u: Lanes,
     v: Lanes,
     steps: Lanes,
 ) -> Result<Four<usize>, Refusal>
-    ensures { result ≡ answer (sample4_refusal kind width height n sampler u v steps) refused (Ok (sample4_four kind width height sampler u v steps)) }
+    ensures { result ≡ answer (sample4_refusal kind width height (length texels.now) sampler u v steps) refused (Ok (sample4_four kind width height sampler u v steps)) }
 {
-    let layout = Layout::new(kind, width, height, n)?;
+    let layout = Layout::new(kind, width, height, texels.len())?;
     layout.picture.check_no_cubemap()?;
     let by = Wrapping::try_from(sampler)?;
     check_coordinates(u, v)?;
     check_finite(steps)?;
+    let width = Side { texels: width };
+    let height = Side { texels: height };
     let level = mip_level_of(width, height, steps);
     Ok(nearest_places(level_at(&layout, level), by, u, v))
 }
@@ -50,7 +53,7 @@ pub fn sample4_rgb(
 ) -> Result<Directions, Refusal>
     ensures answer { result ≡ sample4_rgb_answer kind width height texels.now sampler u v steps }
 {
-    let at = sample4_places(kind, width, height, texels.len(), sampler, u, v, steps)?;
+    let at = sample4_places(kind, width, height, texels, sampler, u, v, steps)?;
     Ok(rgb_four(texels, at))
 }
 
@@ -68,6 +71,6 @@ pub fn sample4_alpha(
 ) -> Result<Lanes, Refusal>
     ensures answer { result ≡ sample4_alpha_answer kind width height texels.now sampler u v steps }
 {
-    let at = sample4_places(kind, width, height, texels.len(), sampler, u, v, steps)?;
+    let at = sample4_places(kind, width, height, texels, sampler, u, v, steps)?;
     Ok(opacity_four(texels, at))
 }

@@ -2,11 +2,12 @@
 ghost use Rattle.std.specs.Prelude.{◌≡◌};
 ghost use Rattle.rules.specs.Answers.{trilinear_answer};
 
-use crate::facing::cubemap_uv_from_normal;
+use crate::facing::facing;
 use lane::cubemap::Cube;
 use lane::pixel::rgb_four;
 use lane::trilinear::{lerp_four, level_places, two_levels};
 use levels::layout::Layout;
+use places::level::Top;
 use places::refusals::check_finite;
 use rules::{Directions, Lanes, Refusal};
 
@@ -24,10 +25,13 @@ pub fn sample_cubemap_trilinear_rgb(
 {
     let layout = Layout::new(kind, width, height, texels.len())?;
     layout.picture.check_cubemap()?;
-    let spots = cubemap_uv_from_normal(directions)?;
+    let met = facing(directions)?;
     check_finite(levels)?;
-    let m = two_levels(levels, layout.picture.top_level() as usize);
-    let at = level_places(Cube { layout: &layout }, spots, m);
+    let top = Top {
+        level: layout.picture.top_level(),
+    };
+    let m = two_levels(levels, top);
+    let at = level_places(Cube { layout: &layout }, met, m);
     let low = rgb_four(texels, at.low);
     let high = rgb_four(texels, at.high);
     Ok(lerp_four(low, high, m.part))

@@ -1,41 +1,41 @@
 // The texel numbers of four lanes along one side.
-ghost use Rattle.std.specs.Prelude.{◌≡◌, ◌≤◌, T};
+ghost use Rattle.std.specs.Prelude.{◌≡◌, T};
 ghost use Rattle.rules.specs.Refusals.{coordinate_taken};
 ghost use Rattle.rules.specs.Whole.{floor_of};
 ghost use Rattle.rules.specs.Places.{nearest_of};
 ghost use Rattle.rules.proofs.RefusingLookups.{EachLane};
 ghost use Rattle.places.specs.Stands.{Counted, nearests_of, Stands, axes_of};
 
+use crate::side::Side;
 use crate::wrap::wrap_four;
 use choice::lanes::each;
 use rules::{Axis, Lanes, Mode, Wholes};
 
 // Nearest: t = floor(u * width).
-fn nearest_texel(u: f32, width: u32) -> f32
-    requires { T (coordinate_taken u) × (1 ≤ width) × (width ≤ 4096) }
-    ensures { Counted result width × (floor_of result ≡ nearest_of u width) }
+fn nearest_texel(u: f32, width: Side) -> f32
+    requires { T (coordinate_taken u) }
+    ensures { Counted result width.texels × (floor_of result ≡ nearest_of u width.texels) }
 {
-    texel::whole::floor(u * (width as f32))
+    texel::whole::floor(u * (width.texels as f32))
 }
 
 // The texels of the nearest lookup along a side: t of four lanes, wrapped.
 #[tactic(auto, unfolding(crate::specs::Stands::nearests_of, crate::specs::Stands::wraps_of))]
-pub fn nearest_four(mode: Mode, u: Lanes, width: usize) -> Wholes
-    requires { EachLane coordinate_taken u × (1 ≤ width) × (width ≤ 4096) }
-    ensures { result ≡ nearests_of mode u width }
+pub fn nearest_four(mode: Mode, u: Lanes, width: Side) -> Wholes
+    requires { EachLane coordinate_taken u }
+    ensures { result ≡ nearests_of mode u width.texels }
 {
-    let side = width as u32;
-    let t = each(u, |x| nearest_texel(x, side));
-    wrap_four(mode, t, side)
+    let t = each(u, |x| nearest_texel(x, width));
+    wrap_four(mode, t, width)
 }
 
 // Where a coordinate stands: its texel number, the next, and how far it lies above.
 // x_f = u * width - 0.5, x0 = floor, x1 = x0 + 1; fx = x_f - x0.
-fn standing(u: f32, width: u32) -> Axis<f32, f32>
-    requires { T (coordinate_taken u) × (1 ≤ width) × (width ≤ 4096) }
-    ensures { Stands u width result }
+fn standing(u: f32, width: Side) -> Axis<f32, f32>
+    requires { T (coordinate_taken u) }
+    ensures { Stands u width.texels result }
 {
-    let x = u * (width as f32) - 0.5;
+    let x = u * (width.texels as f32) - 0.5;
     let first = texel::whole::floor(x);
     Axis {
         first,
@@ -46,15 +46,14 @@ fn standing(u: f32, width: u32) -> Axis<f32, f32>
 
 // x0 and x1 of four lanes, wrapped; and fx.
 #[tactic(auto, unfolding(crate::specs::Stands::axes_of, crate::specs::Stands::wraps_of, rules::specs::Bilinear::axis_of))]
-pub fn four_axes(mode: Mode, u: Lanes, width: usize) -> Axis<Wholes, Lanes>
-    requires { EachLane coordinate_taken u × (1 ≤ width) × (width ≤ 4096) }
-    ensures { result ≡ axes_of mode u width }
+pub fn four_axes(mode: Mode, u: Lanes, width: Side) -> Axis<Wholes, Lanes>
+    requires { EachLane coordinate_taken u }
+    ensures { result ≡ axes_of mode u width.texels }
 {
-    let side = width as u32;
-    let at = each(u, |x| standing(x, side));
+    let at = each(u, |x| standing(x, width));
     Axis {
-        first: wrap_four(mode, each(at, |x| x.first), side),
-        second: wrap_four(mode, each(at, |x| x.second), side),
+        first: wrap_four(mode, each(at, |x| x.first), width),
+        second: wrap_four(mode, each(at, |x| x.second), width),
         part: each(at, |x| x.part),
     }
 }

@@ -7,13 +7,6 @@ ghost use Rattle.places.specs.Spots.{sizes_taken, OnCube};
 use choice::pick;
 use rules::{Spot, Vector};
 
-// Where a direction meets the cube, and whether it is a direction that is taken: no Option, since four lanes' places are joined with no branch.
-#[derive(Clone, Copy)]
-pub struct Meeting {
-    pub spot: Spot,
-    pub taken: bool,
-}
-
 // 2^-60 and 2^60.
 const LOW: f32 = 0.0000000000000000008673617379884035;
 
@@ -27,12 +20,31 @@ fn magnitude(x: f32) -> f32
     if x < 0.0 { -x } else { x }
 }
 
+// The magnitudes of a direction's components.
+fn sizes(d: Vector<f32>) -> Vector<f32>
+    ensures { (result.x ≡ magnitude_of d.x) × (result.y ≡ magnitude_of d.y) × (result.z ≡ magnitude_of d.z) }
+{
+    Vector {
+        x: magnitude(d.x),
+        y: magnitude(d.y),
+        z: magnitude(d.z),
+    }
+}
+
 // Whether each magnitude is at most 2^60, which neither a NaN's nor an infinity's is, and one is 2^-60 at least.
 fn sizes_taken(size: Vector<f32>) -> bool
     ensures { result ≡ sizes_taken size.x size.y size.z }
 {
     let low = (size.x >= LOW) | ((size.y >= LOW) | (size.z >= LOW));
     (size.x <= HIGH) & ((size.y <= HIGH) & ((size.z <= HIGH) & low))
+}
+
+// Whether a direction is taken: no component is a NaN or an infinity, and the largest magnitude lies in 2^-60 to 2^60.
+pub fn direction_taken(x: f32, y: f32, z: f32) -> bool
+    ensures { result ≡ direction_taken x y z }
+{
+    let size = sizes(Vector { x, y, z });
+    sizes_taken(size)
 }
 
 // 1 for a component >= 0, -0 included, and -1 for one below.
@@ -58,12 +70,15 @@ fn on_face(q: f32, major: f32) -> f32
     0.5 * (q / major + 1.0)
 }
 
-// X if |x| >= |y| and |x| >= |z|; else Y if |y| > |x| and |y| >= |z|; else Z.
+// Where a direction that is taken meets the cube: X if |x| >= |y| and |x| >= |z|; else Y if |y| > |x| and |y| >= |z|; else Z.
 // (u, v) before scaling: (-z*sx, -y), (x, z*sy), (x*sz, -y).
-fn spot(d: Vector<f32>, size: Vector<f32>) -> Spot
-    requires { (size.x ≡ magnitude_of d.x) × (size.y ≡ magnitude_of d.y) × (size.z ≡ magnitude_of d.z) }
-    ensures { result ≡ spot_of d.x d.y d.z }
+pub fn meet(x: f32, y: f32, z: f32) -> Spot
+    requires { T (direction_taken x y z) }
+    ensures at { result ≡ spot_of x y z }
+    ensures on { OnCube result }
 {
+    let d = Vector { x, y, z };
+    let size = sizes(d);
     let on_x = (size.x >= size.y) & (size.x >= size.z);
     let on_y = (size.y > size.x) & (size.y >= size.z);
     let q = pick(on_x, -d.z * sign(d.x), pick(on_y, d.x, d.x * sign(d.z)));
@@ -73,20 +88,5 @@ fn spot(d: Vector<f32>, size: Vector<f32>) -> Spot
         face: pick(on_x, odd(d.x), pick(on_y, 2 + odd(d.y), 4 + odd(d.z))),
         u: on_face(q, major),
         v: on_face(p, major),
-    }
-}
-
-// Where a direction meets the cube, and whether it is taken: no component is a NaN or an infinity, and the largest magnitude lies in 2^-60 to 2^60.
-pub fn meet(x: f32, y: f32, z: f32) -> Meeting
-    ensures { (result.spot ≡ spot_of x y z) × (result.taken ≡ direction_taken x y z) × (T (direction_taken x y z) → OnCube (spot_of x y z)) }
-{
-    let size = Vector {
-        x: magnitude(x),
-        y: magnitude(y),
-        z: magnitude(z),
-    };
-    Meeting {
-        spot: spot(Vector { x, y, z }, size),
-        taken: sizes_taken(size),
     }
 }

@@ -9,4 +9,5 @@ pub mod face;
 pub mod level;
 pub mod place;
 pub mod refusals;
+pub mod side;
 pub mod wrap;

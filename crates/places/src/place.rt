@@ -1,7 +1,8 @@
 // A texel's place in the chain. Every place that is read goes through here.
-ghost use Rattle.std.specs.Prelude.{◌≡◌, ◌+◌, ◌*◌, ◌≤◌, ◌<◌};
+ghost use Rattle.std.specs.Prelude.{◌≡◌};
 ghost use Rattle.places.specs.Sized.{Sized};
 
+use crate::side::Side;
 use rules::Plane;
 
 // A level of which each texel has a place.
@@ -12,7 +13,34 @@ pub struct Level {
 }
 
 impl Level {
+    ghost use Rattle.std.specs.Prelude.{◌≡◌, ◌+◌, ◌*◌, ◌<◌};
     ghost use Rattle.rules.specs.Places.{place_of, InLevel};
+
+    // Its width.
+    pub fn width(self) -> Side
+        ensures { result.texels ≡ self.plane.width }
+    {
+        Side {
+            texels: self.plane.width as u32,
+        }
+    }
+
+    // Its height.
+    pub fn height(self) -> Side
+        ensures { result.texels ≡ self.plane.height }
+    {
+        Side {
+            texels: self.plane.height as u32,
+        }
+    }
+
+    // Texel (x, y) of face f as a place in the level.
+    fn inside(self, f: usize, x: usize, y: usize) -> usize
+        requires { InLevel self.plane f x y }
+        ensures { (result ≡ (f * self.plane.height + y) * self.plane.width + x) × (result < 100663296) }
+    {
+        (f * self.plane.height + y) * self.plane.width + x
+    }
 
     // Texel (x, y) of face f as a place in the chain.
     #[tactic(auto, unfolding(rules::specs::Places::place_of))]
@@ -20,15 +48,6 @@ impl Level {
         requires { InLevel self.plane f x y }
         ensures { result ≡ place_of self.plane f x y }
     {
-        let plane = self.plane;
-        plane.start + inside(plane.width, plane.height, f, x, y)
+        self.plane.start + self.inside(f, x, y)
     }
-}
-
-// Texel (x, y) of face f as a place in its level.
-fn inside(w: usize, h: usize, f: usize, x: usize, y: usize) -> usize
-    requires { (f < 6) × (x < w) × (y < h) × (w ≤ 4096) × (h ≤ 4096) }
-    ensures { (result ≡ (f * h + y) * w + x) × (result < 100663296) }
-{
-    (f * h + y) * w + x
 }

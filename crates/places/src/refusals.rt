@@ -1,13 +1,15 @@
 // The refusals of four lanes: one bad lane refuses all four.
 ghost use Rattle.std.specs.Prelude.{◌≡◌};
 ghost use Rattle.std.specs.Float.Ieee.Scale.{finite};
-ghost use Rattle.rules.specs.Lanes.{in_lanes};
-ghost use Rattle.rules.specs.Refusals.{coordinate_taken, coordinates_refusal, finite_refusal};
+ghost use Rattle.rules.specs.Lanes.{in_lanes, in_directions};
+ghost use Rattle.rules.specs.Faces.{direction_taken};
+ghost use Rattle.rules.specs.Refusals.{coordinate_taken, coordinates_refusal, finite_refusal, directions_refusal};
 ghost use Rattle.rules.specs.Answers.{told};
 
 use crate::coordinate::coordinate_taken;
-use choice::lanes::{all, each};
-use rules::{Lanes, Refusal};
+use crate::face::direction_taken;
+use choice::lanes::{all, each, pairs};
+use rules::{Directions, Lanes, Refusal};
 
 // Whether each of four coordinates is taken.
 #[tactic(auto, unfolding(rules::specs::Lanes::in_lanes))]
@@ -46,5 +48,28 @@ pub fn check_finite(l: Lanes) -> Result<(), Refusal>
         Ok(())
     } else {
         Err(Refusal::NumberOutside)
+    }
+}
+
+// Whether each of four directions is taken.
+#[tactic(auto, unfolding(rules::specs::Lanes::in_directions))]
+fn directions_taken(d: Directions) -> bool
+    ensures { result ≡ in_directions direction_taken d }
+{
+    all(each(
+        pairs(d.x, pairs(d.y, d.z)),
+        |(x, (y, z))| direction_taken(x, y, z),
+    ))
+}
+
+// 7: a direction's component is not finite, or its largest magnitude is below 2^-60 or above 2^60.
+#[tactic(auto, unfolding(rules::specs::Refusals::directions_refusal, rules::specs::Refusals::refusal_of, rules::specs::Answers::answer))]
+pub fn check_directions(d: Directions) -> Result<(), Refusal>
+    ensures { result ≡ told (directions_refusal d) }
+{
+    if directions_taken(d) {
+        Ok(())
+    } else {
+        Err(Refusal::DirectionOutside)
     }
 }

@@ -1,5 +1,5 @@
 // Two wrap codes to modes, and texel numbers wrapped into a side: f32 numbers that are whole, so that four lanes are wrapped side by side.
-ghost use Rattle.std.specs.Prelude.{◌≡◌, ◌≤◌};
+ghost use Rattle.std.specs.Prelude.{◌≡◌};
 ghost use Rattle.std.specs.Float.{binary32};
 ghost use Rattle.std.specs.Float.Ieee.{div};
 ghost use Rattle.rules.specs.declared.Mode.TheVariants.{Repeat, Clamp, Mirror};
@@ -11,6 +11,7 @@ ghost use Rattle.places.specs.Sources.{least as least_of, most as most_of, rest_
 ghost use Rattle.places.specs.Samplers.{sampler_decodes};
 ghost use Rattle.places.specs.Stands.{Counted, AllCounted, wraps_of};
 
+use crate::side::Side;
 use choice::lanes::each;
 use choice::pick;
 use rules::{Lanes, Mode, Refusal, Sampler, Wholes};
@@ -59,27 +60,27 @@ fn rest(t: f32, n: f32) -> f32
 }
 
 // The remainder of t by d.
-fn repeated(t: f32, d: u32) -> u32
-    requires { Counted t d × (1 ≤ d) × (d ≤ 4096) }
-    ensures { result ≡ wrap_of Repeat (floor_of t) d }
+fn repeated(t: f32, d: Side) -> u32
+    requires { Counted t d.texels }
+    ensures { result ≡ wrap_of Repeat (floor_of t) d.texels }
 {
-    rest(t, d as f32) as i32 as u32
+    rest(t, d.texels as f32) as i32 as u32
 }
 
 // t held to 0..d-1.
-fn held(t: f32, d: u32) -> u32
-    requires { Counted t d × (1 ≤ d) × (d ≤ 4096) }
-    ensures { result ≡ wrap_of Clamp (floor_of t) d }
+fn held(t: f32, d: Side) -> u32
+    requires { Counted t d.texels }
+    ensures { result ≡ wrap_of Clamp (floor_of t) d.texels }
 {
-    least(most(t, 0.0), (d as f32) - 1.0) as i32 as u32
+    least(most(t, 0.0), (d.texels as f32) - 1.0) as i32 as u32
 }
 
 // min(r, 2d - r, d - 1), for r the remainder by 2d.
-fn mirrored(t: f32, d: u32) -> u32
-    requires { Counted t d × (1 ≤ d) × (d ≤ 4096) }
-    ensures { result ≡ wrap_of Mirror (floor_of t) d }
+fn mirrored(t: f32, d: Side) -> u32
+    requires { Counted t d.texels }
+    ensures { result ≡ wrap_of Mirror (floor_of t) d.texels }
 {
-    let side = d as f32;
+    let side = d.texels as f32;
     let two = side * 2.0;
     let r = rest(t, two);
     least(least(r, two - r), side - 1.0) as i32 as u32
@@ -87,9 +88,9 @@ fn mirrored(t: f32, d: u32) -> u32
 
 // Each of four texel numbers wrapped into the side d: the remainder, t held to the side, or mirrored.
 #[tactic(auto, unfolding(crate::specs::Stands::wraps_of))]
-pub fn wrap_four(mode: Mode, t: Lanes, d: u32) -> Wholes
-    requires { AllCounted t d × (1 ≤ d) × (d ≤ 4096) }
-    ensures { result ≡ wraps_of mode t d }
+pub fn wrap_four(mode: Mode, t: Lanes, d: Side) -> Wholes
+    requires { AllCounted t d.texels }
+    ensures { result ≡ wraps_of mode t d.texels }
 {
     match mode {
         Mode::Repeat => each(t, |x| repeated(x, d)),

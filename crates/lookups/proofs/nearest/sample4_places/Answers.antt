@@ -1,6 +1,6 @@
 -- `lookups::nearest::sample4_places` meets its contract: past the refusals the level that the steps ask for is one of the picture's.
 use mathlib.Core.Path.{◌≡◌, sym}
-use native.Mathlib.Omega.{arith}
+use lib.ListN.{length}
 use Rattle.rules.specs.Refusals.{sample4_refusal}
 use Rattle.rules.proofs.Refusing.{or_else-taken, answer-given}
 use Rattle.rules.proofs.RefusingLookups.{Sampled, sample4-facts}
@@ -12,7 +12,7 @@ use Rattle.lookups.proofs.nearest.sample4_places.Goals as goal
 use Rattle.lookups.proofs.nearest.sample4_places.Goals.{In_ok-check_finite}
 
 -- past the refusals
-none : (c : goal.In_ok-check_finite) → let a = c.args in sample4_refusal a.kind a.width a.height a.n a.sampler a.u a.v a.steps ≡ 0
+none : (c : goal.In_ok-check_finite) → let a = c.args in sample4_refusal a.kind a.width a.height (length a.texels.now) a.sampler a.u a.v a.steps ≡ 0
 unfolding sample4_refusal
 none c =
     let given = c.in_ok-layout.ensures in
@@ -22,11 +22,14 @@ none c =
     (or_else-taken _ _ (given_none _ _ _ (sym c.in_ok-by.ensures))
     (or_else-taken _ _ (told_none _ (sym c.in_ok-check_coordinates.ensures)) (told_none _ (sym c.in_ok-check_finite.ensures)))))
 
-facts : (c : goal.In_ok-check_finite) → let a = c.args in Sampled a.kind a.width a.height a.n a.sampler a.u a.v a.steps
+facts : (c : goal.In_ok-check_finite) → let a = c.args in Sampled a.kind a.width a.height (length a.texels.now) a.sampler a.u a.v a.steps
 facts c = sample4-facts _ _ _ _ _ _ _ _ (none c)
 
-pub mip_level_of-level-requires : goal.mip_level_of-level-requires
-mip_level_of-level-requires c = let t = (facts (goal.at.mip_level_of-level-requires c).In_ok-check_finite).chained.taken in omega (arith, t)
+pub invariant_of-width : goal.invariant_of-width
+invariant_of-width c = let s = (facts (goal.at.invariant_of-width c).In_ok-check_finite).chained.taken in record { is = (s.some-w, s.most-w) }
+
+pub invariant_of-height : goal.invariant_of-height
+invariant_of-height c = let s = (facts (goal.at.invariant_of-height c).In_ok-check_finite).chained.taken in record { is = (s.some-h, s.most-h) }
 
 pub level_at-requires : goal.level_at-requires
 level_at-requires c =

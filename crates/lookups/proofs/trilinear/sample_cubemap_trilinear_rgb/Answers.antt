@@ -2,10 +2,9 @@
 use mathlib.Core.Path.{◌≡◌, sym, ap, ◌∙◌, subst}
 use lib.ListN.{length}
 use Rattle.rules.specs.Refusals.{cubemap_refusal, trilinear_refusal}
-use Rattle.rules.specs.Answers.{spots_at, facing_answer}
 use Rattle.rules.proofs.Refusing.{or_else-taken, cube-facts}
 use Rattle.rules.proofs.RefusingLookups.{Cubed, cubemap-facts, finite-facts}
-use Rattle.rules.proofs.Answering.{told_none, given_none, given_is}
+use Rattle.rules.proofs.Answering.{told_none}
 use Rattle.lane.specs.Reading.{Inside}
 use Rattle.lane.proofs.Holding.{cubes-inside}
 use Rattle.lookups.proofs.Answering.{cube-chained, trilinear-made}
@@ -14,11 +13,11 @@ use Rattle.lookups.proofs.trilinear.sample_cubemap_trilinear_rgb.Goals.{In_ok-ch
 
 -- past the refusals
 none : (c : goal.In_ok-check_finite) → let a = c.args in cubemap_refusal a.kind a.width a.height (length a.texels.now) a.directions ≡ 0
-unfolding cubemap_refusal facing_answer
+unfolding cubemap_refusal
 none c =
     let given = c.in_ok-layout.ensures in
     let cube = told_none _ (sym c.in_ok-check_cubemap.ensures) in
-    or_else-taken _ _ (told_none _ (sym given.told)) (or_else-taken _ _ (rw given.is.0 at cube) (given_none _ _ _ (sym c.in_ok-spots.ensures.answer)))
+    or_else-taken _ _ (told_none _ (sym given.told)) (or_else-taken _ _ (rw given.is.0 at cube) (told_none _ (sym c.in_ok-met.ensures.told)))
 
 all-none : (c : goal.In_ok-check_finite) → let a = c.args in trilinear_refusal a.kind a.width a.height (length a.texels.now) a.directions a.levels ≡ 0
 unfolding trilinear_refusal
@@ -27,12 +26,8 @@ all-none c = or_else-taken _ _ (none c) (told_none _ (sym c.in_ok-check_finite.e
 facts : (c : goal.In_ok-check_finite) → let a = c.args in Cubed a.kind a.width a.height (length a.texels.now) a.directions
 facts c = cubemap-facts _ _ _ _ _ (none c)
 
-met : (c : goal.In_ok-check_finite) → c.in_ok-spots.spots ≡ spots_at c.args.directions
-unfolding facing_answer
-met c = given_is _ _ _ (sym c.in_ok-spots.ensures.answer)
-
 pub two_levels-m-requires : goal.two_levels-m-requires
-two_levels-m-requires c = (finite-facts _ (told_none _ (sym c.in_ok-check_finite.ensures)), c.top_level.ensures.1)
+two_levels-m-requires c = finite-facts _ (told_none _ (sym c.in_ok-check_finite.ensures))
 
 pub invariant_of-level_places : goal.invariant_of-level_places
 invariant_of-level_places c = record { is = cube-facts _ (told_none _ (sym c.in_ok-check_cubemap.ensures)) }
@@ -41,13 +36,13 @@ pub rgb_four-low-requires : goal.rgb_four-low-requires
 rgb_four-low-requires c =
     let is = c.in_ok-layout.ensures.is in
     let e = rw (is.1, is.2) at c.level_places-at.ensures in
-    subst (Inside _) (sym (ap (λ p. p.low) e)) (cubes-inside _ _ _ (cube-chained (facts (goal.at.rgb_four-low-requires c).In_ok-check_finite)) c.in_ok-spots.ensures.on)
+    subst (Inside _) (sym (ap (λ p. p.low) e)) (cubes-inside _ _ _ (cube-chained (facts (goal.at.rgb_four-low-requires c).In_ok-check_finite)) c.in_ok-met.met.on)
 
 pub rgb_four-high-requires : goal.rgb_four-high-requires
 rgb_four-high-requires c =
     let is = c.in_ok-layout.ensures.is in
     let e = rw (is.1, is.2) at c.level_places-at.ensures in
-    subst (Inside _) (sym (ap (λ p. p.high) e)) (cubes-inside _ _ _ (cube-chained (facts (goal.at.rgb_four-high-requires c).In_ok-check_finite)) c.in_ok-spots.ensures.on)
+    subst (Inside _) (sym (ap (λ p. p.high) e)) (cubes-inside _ _ _ (cube-chained (facts (goal.at.rgb_four-high-requires c).In_ok-check_finite)) c.in_ok-met.met.on)
 
 pub returns : goal.returns
 returns c =
@@ -55,6 +50,6 @@ returns c =
     let is = c.in_ok-layout.ensures.is in
     let at = (goal.at.returns c).In_ok-check_finite in
     record {
-      answer = trilinear-made a.kind a.width a.height _ a.directions a.levels (all-none at) (met at)
+      answer = trilinear-made a.kind a.width a.height _ a.directions a.levels (all-none at) c.in_ok-met.ensures.met
           (c.top_level.ensures.0 ∙ rw (is.1, is.2)) c.two_levels-m.ensures.0 (rw (is.1, is.2) at c.level_places-at.ensures) c.rgb_four-low.ensures c.rgb_four-high.ensures c.lerp_four.ensures;
     }

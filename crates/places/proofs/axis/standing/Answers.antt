@@ -5,10 +5,10 @@ use Rattle.places.proofs.Spans.{span-in, stands}
 use Rattle.places.proofs.axis.standing.Goals as goal
 
 pub int_to_float-x : goal.int_to_float-x
-int_to_float-x c = side-float c.args.width (let h = c.requires.2 in omega arith)
+int_to_float-x c = side-float c.args.width.texels (let h = c.args.width.is.1 in omega arith)
 
 pub floor-first-requires : goal.floor-first-requires
-floor-first-requires c = span-in c.args.u c.args.width c.requires.0 c.requires.1 c.requires.2
+floor-first-requires c = span-in c.args.u c.args.width.texels c.requires c.args.width.is.0 c.args.width.is.1
 
 pub returns : goal.returns
-returns c = stands c.args.u c.args.width c.requires.0 c.requires.1 c.requires.2 c.floor-first.result c.floor-first.ensures
+returns c = stands c.args.u c.args.width.texels c.requires c.args.width.is.0 c.args.width.is.1 c.floor-first.result c.floor-first.ensures

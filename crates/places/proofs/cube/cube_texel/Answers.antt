@@ -6,13 +6,13 @@ use Rattle.texel.proofs.Coord.{side-float, across-top, texel-le}
 use Rattle.places.proofs.cube.cube_texel.Goals as goal
 
 pub int_to_float-width : goal.int_to_float-width
-int_to_float-width c = side-float _ (let p = c.requires in omega arith)
+int_to_float-width c = side-float _ (let h = c.args.width.is.1 in omega arith)
 
 pub round_even-requires : goal.round_even-requires
-round_even-requires c = across-top c.args.u (c.args.width - 1) c.requires.0 (omega arith)
+round_even-requires c = across-top c.args.u (c.args.width.texels - 1) c.requires (let h = c.args.width.is.1 in omega arith)
 
 pub returns : goal.returns
 unfolding cube_texel
 returns c =
-    let k = texel-le c.args.u (c.args.width - 1) c.requires.0 (omega arith) in
-    (c.round_even.ensures, omega (arith, c.round_even.ensures))
+    let k = texel-le c.args.u (c.args.width.texels - 1) c.requires (let h = c.args.width.is.1 in omega arith) in
+    (c.round_even.ensures, omega (arith, c.round_even.ensures, c.args.width.is.0))

@@ -11,4 +11,4 @@ overflow_sub-held c = rw c.pick-held.ensures (held-exponent c.args.footprint).le
 
 pub returns : goal.returns
 returns c =
-    rw (c.min.ensures, c.pick-held.ensures) (four-held c.args.top c.args.footprint c.requires)
+    rw (c.min.ensures, c.pick-held.ensures) (four-held c.args.top.level c.args.footprint c.args.top.is)

@@ -13,14 +13,14 @@ use Rattle.places.proofs.Wraps.{Cut, held_cut}
 use Rattle.places.proofs.wrap.held.Goals as goal
 use Rattle.places.proofs.wrap.held.Goals.{After-least}
 
-facts : (c : goal.After-least) → Cut c.least.result (wrap_of Clamp (floor_of c.args.t) c.args.d)
+facts : (c : goal.After-least) → Cut c.least.result (wrap_of Clamp (floor_of c.args.t) c.args.d.texels)
 facts c =
-    subst (λ (x : Float). Cut x (wrap_of Clamp (floor_of c.args.t) c.args.d))
-    (sym (c.least.ensures ∙ ap (λ (x : Float). least x (sub binary32 (float c.args.d) one32)) c.most.ensures))
-    (held_cut c.args.t c.args.d c.requires.0 c.requires.1 c.requires.2)
+    subst (λ (x : Float). Cut x (wrap_of Clamp (floor_of c.args.t) c.args.d.texels))
+    (sym (c.least.ensures ∙ ap (λ (x : Float). least x (sub binary32 (float c.args.d.texels) one32)) c.most.ensures))
+    (held_cut c.args.t c.args.d.texels c.requires c.args.d.is.0 c.args.d.is.1)
 
 pub int_to_float-d : goal.int_to_float-d
-int_to_float-d c = side-float c.args.d (let h = c.requires.2 in omega arith)
+int_to_float-d c = side-float c.args.d.texels (let h = c.args.d.is.1 in omega arith)
 
 pub float_to_int-result : goal.float_to_int-result
 float_to_int-result c = (facts (goal.at.float_to_int-result c).After-least).is_whole

@@ -13,20 +13,20 @@ use Rattle.places.proofs.Wraps.{Cut, two_in, mirrored-cut}
 use Rattle.places.proofs.wrap.mirrored.Goals as goal
 use Rattle.places.proofs.wrap.mirrored.Goals.{After-least-2}
 
-facts : (c : goal.After-least-2) → Cut c.least-2.result (wrap_of Mirror (floor_of c.args.t) c.args.d)
+facts : (c : goal.After-least-2) → Cut c.least-2.result (wrap_of Mirror (floor_of c.args.t) c.args.d.texels)
 facts c =
-    let two = mul binary32 (float c.args.d) two32 in
-    subst (λ (x : Float). Cut x (wrap_of Mirror (floor_of c.args.t) c.args.d))
+    let two = mul binary32 (float c.args.d.texels) two32 in
+    subst (λ (x : Float). Cut x (wrap_of Mirror (floor_of c.args.t) c.args.d.texels))
     (sym
     (c.least-2.ensures
-    ∙ ap (λ (x : Float). least x (sub binary32 (float c.args.d) one32)) (c.least.ensures ∙ ap (λ (x : Float). least x (sub binary32 two x)) c.rest-r.ensures)))
-    (mirrored-cut c.args.t c.args.d c.requires.0 c.requires.1 c.requires.2)
+    ∙ ap (λ (x : Float). least x (sub binary32 (float c.args.d.texels) one32)) (c.least.ensures ∙ ap (λ (x : Float). least x (sub binary32 two x)) c.rest-r.ensures)))
+    (mirrored-cut c.args.t c.args.d.texels c.requires c.args.d.is.0 c.args.d.is.1)
 
 pub int_to_float-side : goal.int_to_float-side
-int_to_float-side c = side-float c.args.d (let h = c.requires.2 in omega arith)
+int_to_float-side c = side-float c.args.d.texels (let h = c.args.d.is.1 in omega arith)
 
 pub rest-r-requires : goal.rest-r-requires
-rest-r-requires c = two_in c.args.t c.args.d c.requires.0 c.requires.1 c.requires.2
+rest-r-requires c = two_in c.args.t c.args.d.texels c.requires c.args.d.is.0 c.args.d.is.1
 
 pub float_to_int-result : goal.float_to_int-result
 float_to_int-result c = (facts (goal.at.float_to_int-result c).After-least-2).is_whole

@@ -11,14 +11,14 @@ use Rattle.places.proofs.Wraps.{Cut, side-in, repeated-cut}
 use Rattle.places.proofs.wrap.repeated.Goals as goal
 use Rattle.places.proofs.wrap.repeated.Goals.{After-rest}
 
-facts : (c : goal.After-rest) → Cut c.rest.result (wrap_of Repeat (floor_of c.args.t) c.args.d)
-facts c = subst (λ (x : Float). Cut x (wrap_of Repeat (floor_of c.args.t) c.args.d)) (sym c.rest.ensures) (repeated-cut c.args.t c.args.d c.requires.0 c.requires.1 c.requires.2)
+facts : (c : goal.After-rest) → Cut c.rest.result (wrap_of Repeat (floor_of c.args.t) c.args.d.texels)
+facts c = subst (λ (x : Float). Cut x (wrap_of Repeat (floor_of c.args.t) c.args.d.texels)) (sym c.rest.ensures) (repeated-cut c.args.t c.args.d.texels c.requires c.args.d.is.0 c.args.d.is.1)
 
 pub int_to_float-d : goal.int_to_float-d
-int_to_float-d c = side-float c.args.d (let h = c.requires.2 in omega arith)
+int_to_float-d c = side-float c.args.d.texels (let h = c.args.d.is.1 in omega arith)
 
 pub rest-requires : goal.rest-requires
-rest-requires c = side-in c.args.t c.args.d c.requires.0 c.requires.1 c.requires.2
+rest-requires c = side-in c.args.t c.args.d.texels c.requires c.args.d.is.0 c.args.d.is.1
 
 pub float_to_int-result : goal.float_to_int-result
 float_to_int-result c = (facts (goal.at.float_to_int-result c).After-rest).is_whole
