@@ -56,8 +56,8 @@ impl Reduce for Rounded {
     // All are looked at, so that they can be looked at several at once.
     fn all_right(&self, a: &[u32], b: &[u32], c: &[u32]) -> bool {
         let mut unlike = 0u32;
-        for x in 0..c.len() {
-            unlike += (self.reduced(pairs_at(x, a, b)) != c[x]) as u32;
+        for (x, texel) in c.iter().enumerate() {
+            unlike += (self.reduced(pairs_at(x, a, b)) != *texel) as u32;
         }
         unlike == 0
     }

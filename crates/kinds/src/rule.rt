@@ -35,7 +35,7 @@ pub fn row<R: Reduce>(rule: &R, a: &[u32], b: &[u32], o: &mut [u32])
     requires { (2 * length o.old ≤ length a.now) × (2 * length o.old ≤ length b.now) }
     ensures { o.new ≡ tab (length o.old) (pair_of (R.rule rule.now) a.now b.now) }
 {
-    for x in 0..o.len() {
-        o[x] = rule.reduced(pairs_at(x, a, b));
+    for (x, texel) in o.iter_mut().enumerate() {
+        *texel = rule.reduced(pairs_at(x, a, b));
     }
 }

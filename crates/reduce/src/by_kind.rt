@@ -1,5 +1,5 @@
-// A kind's rule, chosen once a chain, and by a check once a level. Cubemap and Linear are the plain mean, in nearest mode by whole numbers.
-// `fill` and `check_next` have the same arms: a visitor with a method for each rule would be longer than they are.
+// A kind's rule: `fill` and `check_next` choose the type, once a call, by an enum. Cubemap and Linear are the plain mean, in nearest mode by
+// whole numbers. Both have the same arms: a visitor with a method for each rule would be longer than they are.
 ghost use Rattle.std.specs.Prelude.{◌≡◌, ◌+◌, ◌*◌, ◌≤◌, length, get_or, take};
 ghost use Rattle.rules.specs.Sizes.{half, start};
 ghost use Rattle.rules.specs.Levels.{next, filled};

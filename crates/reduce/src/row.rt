@@ -1,5 +1,5 @@
 // One row of the next level, from two rows of the level before.
-ghost use Rattle.std.specs.Prelude.{◌≡◌, ◌*◌, ◌≤◌, length, get_or};
+ghost use Rattle.std.specs.Prelude.{◌≡◌, ◌*◌, ◌≤◌, length};
 ghost use Rattle.rules.specs.Sizes.{half};
 ghost use Rattle.rules.specs.Levels.{tab};
 ghost use Rattle.kinds.specs.Runs.{pair_of};

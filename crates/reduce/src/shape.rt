@@ -22,7 +22,7 @@ pub struct Above {
 pub fn halved(s: usize) -> usize
     ensures { result ≡ half s }
 {
-    if s < 2 { 1 } else { s / 2 }
+    (s / 2).max(1)
 }
 
 // y1 = min(2y + 1, previous height - 1)
@@ -34,6 +34,7 @@ fn second(y: usize, h: usize) -> usize
 }
 
 impl Shape {
+    // It asks for the sides, since it makes the value whose ghost field says them.
     pub fn new(faces: usize, width: usize, height: usize) -> Shape
         requires { Sides faces width height }
         ensures { (result.faces ≡ faces) × (result.width ≡ width) × (result.height ≡ height) }
