@@ -3,7 +3,8 @@ ghost use Rattle.std.specs.Prelude.{◌≡◌, true, ℕ, ◌*◌, ◌<◌, ◌�
 ghost use Rattle.rules.specs.Levels.{tab};
 ghost use Rattle.kinds.specs.Runs.{pair_of};
 
-use crate::channel::{Quad, pairs_at};
+use crate::above::Rows;
+use crate::channel::Quad;
 
 pub trait Reduce {
     // The texel that takes the place of p00, p10, p01, p11.
@@ -18,11 +19,11 @@ pub trait Reduce {
         false
     }
 
-    // Whether c is told to be the row of a and b without a row being made.
-    fn all_right(&self, a: &[u32], b: &[u32], c: &[u32]) -> bool
+    // Whether c is told to be the row of these two without a row being made.
+    fn all_right(&self, rows: Rows, c: &[u32]) -> bool
         requires few { length c.now < 4294967296 }
-        requires pairs { (2 * length c.now ≤ length a.now) × (2 * length c.now ≤ length b.now) }
-        ensures { (result ≡ true) → (k : ℕ) → k < length c.now → get_or c.now k 0 ≡ pair_of (rule self.now) a.now b.now k }
+        requires pairs { 2 * length c.now ≤ length rows.first.now }
+        ensures { (result ≡ true) → (k : ℕ) → k < length c.now → get_or c.now k 0 ≡ pair_of (rule self.now) rows.entry.first.now rows.entry.second.now k }
     {
         false
     }
@@ -31,11 +32,11 @@ pub trait Reduce {
 // A row, each texel made of its pairs of the two rows above. Compiled into its callers, where the array that it fills is seen to overlap
 // nothing.
 #[inline(always)]
-pub fn row<R: Reduce>(rule: &R, a: &[u32], b: &[u32], o: &mut [u32])
-    requires { (2 * length o.old ≤ length a.now) × (2 * length o.old ≤ length b.now) }
-    ensures { o.new ≡ tab (length o.old) (pair_of (R.rule rule.now) a.now b.now) }
+pub fn row<R: Reduce>(rule: &R, rows: Rows, o: &mut [u32])
+    requires { 2 * length o.old ≤ length rows.first.now }
+    ensures { o.new ≡ tab (length o.old) (pair_of (R.rule rule.now) rows.entry.first.now rows.entry.second.now) }
 {
     for (x, texel) in o.iter_mut().enumerate() {
-        *texel = rule.reduced(pairs_at(x, a, b));
+        *texel = rule.reduced(rows.pair(x));
     }
 }

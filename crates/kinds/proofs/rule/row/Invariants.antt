@@ -4,4 +4,4 @@ use Rattle.kinds.proofs.Runs.{Over}
 use Rattle.kinds.proofs.rule.row.Given as goal
 
 abbrev pub invariant-loop-x : goal.invariant-loop-x
-invariant-loop-x g l = Over 0 l.initial.o l.x (pair_of (g.R.Reduce.rule l.rule) l.a l.b) l.o
+invariant-loop-x g l = Over 0 l.initial.o l.x (pair_of (g.R.Reduce.rule l.rule) l.rows.first.now l.rows.second.now) l.o

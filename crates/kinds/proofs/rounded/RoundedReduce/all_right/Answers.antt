@@ -13,7 +13,7 @@ loop-x-preserved c =
     let i = c.loop-x.invariant in
     record {
       most = omega (arith, d.0, i.most);
-      same = λ none. stands-more (linear_of Nearest) _ _ _ _ _ (i.same (omega arith)) c.pairs_at.ensures (sym (d.1 (omega arith)) ∙ c.reduced.ensures);
+      same = λ none. stands-more (linear_of Nearest) _ _ _ _ _ (i.same (omega arith)) c.pair.ensures (sym (d.1 (omega arith)) ∙ c.reduced.ensures);
     }
 
 pub returns : goal.returns
