@@ -72,14 +72,8 @@ pub fn check_rows<R: Reduce>(
     ensures { Right 0 c.now (length c.now) (rows_of (R.rule rule.now) w above.first above.second level.now) result }
 {
     let first = above.first;
-    let second = above.second;
     if 1 < m {
         return check_block(rule, w, m, &level[first..first + 2 * m * w], c);
     }
-    check_row(
-        rule,
-        &level[first..first + w],
-        &level[second..second + w],
-        c,
-    )
+    check_row(rule, above.rows(w, level), c)
 }

@@ -1,7 +1,9 @@
 // A level's faces and sides, and where the rows of the next level come from.
-ghost use Rattle.std.specs.Prelude.{◌≡◌, ◌+◌, ◌-◌, ◌*◌, ◌<◌, ◌≤◌, min};
+ghost use Rattle.std.specs.Prelude.{◌≡◌, ◌+◌, ◌-◌, ◌*◌, ◌<◌, ◌≤◌, min, length, take, drop};
 ghost use Rattle.rules.specs.Sizes.{half};
 ghost use Rattle.reduce.specs.Levels.{Sides, first_row, second_row};
+
+use kinds::above::Rows;
 
 #[derive(Clone, Copy)]
 pub struct Shape {
@@ -16,6 +18,20 @@ pub struct Shape {
 pub struct Above {
     pub first: usize,
     pub second: usize,
+}
+
+impl Above {
+    // The two rows of a level, w wide.
+    pub fn rows(self, w: usize, level: &[u32]) -> Rows<'_>
+        requires { (self.first + w ≤ length level.now) × (self.second + w ≤ length level.now) }
+        ensures rows { (result.first.now ≡ take w (drop self.first level.now)) × (result.second.now ≡ take w (drop self.second level.now)) }
+        ensures width { length result.first.now ≡ w }
+    {
+        Rows::new(
+            &level[self.first..self.first + w],
+            &level[self.second..self.second + w],
+        )
+    }
 }
 
 // The next level's side: shifted right by 1, and at least 1.

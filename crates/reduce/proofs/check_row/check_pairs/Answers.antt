@@ -1,6 +1,5 @@
 use mathlib.Core.Path.{◌≡◌}
 use native.Mathlib.Omega.{arith}
-use borrow.Author.Rules.{part_to_end}
 use lib.ListN.{length}
 use Rattle.kinds.specs.Runs.{pair_of}
 use Rattle.kinds.proofs.Runs.{over_first}
@@ -19,13 +18,13 @@ loop-x-init g c = (omega arith, over_first _ _ _ (omega arith))
 found : (g : _) (c : goal.After-check_part-right g)
     → let a = c.args in
     let x = c.loop-x.x in
-    Right x a.c.now c.min-m.result (pair_of (g.R.Reduce.rule a.rule.now) (drop (2 * x) a.a.now) (drop (2 * x) a.b.now)) c.check_part-right.result
+    Right x a.c.now c.min-m.result (pair_of (g.R.Reduce.rule a.rule.now) (drop (2 * x) a.rows.first.now) (drop (2 * x) a.rows.second.now)) c.check_part-right.result
 found g c =
     let a = c.args in
     let x = c.loop-x.x in
     let m = c.min-m.ensures in
     right-part x a.c.now (omega arith)
-    (rw (row-long c.min-m.result x a.c.now (omega arith), part_to_end a.a.now (2 * x), part_to_end a.b.now (2 * x)) at c.check_part-right.ensures)
+    (rw (row-long c.min-m.result x a.c.now (omega arith), c.from_pair.ensures.0, c.from_pair.ensures.1) at c.check_part-right.ensures)
 
 pub returns-then-right-m : goal.returns-then-right-m
 returns-then-right-m g c =

@@ -6,7 +6,7 @@ use Rattle.kinds.proofs.Runs.{Over}
 use Rattle.reduce.proofs.row.write_pairs.Given as goal
 
 abbrev pub invariant-loop-x : goal.invariant-loop-x
-invariant-loop-x g l = (l.x ≤ length l.initial.o) × Over 0 l.initial.o l.x (pair_of (g.R.Reduce.rule l.rule) l.a l.b) l.o
+invariant-loop-x g l = (l.x ≤ length l.initial.o) × Over 0 l.initial.o l.x (pair_of (g.R.Reduce.rule l.rule) l.rows.first.now l.rows.second.now) l.o
 
 abbrev pub decreases-loop-x : goal.decreases-loop-x
 decreases-loop-x g l = length l.initial.o - l.x
