@@ -30,15 +30,12 @@ fn check_pairs<R: Reduce>(rule: &R, rows: Rows, c: &[u32]) -> usize
     requires { 2 * length c.now ≤ length rows.first.now }
     ensures { Right 0 c.now (length c.now) (pair_of (R.rule rule.now) rows.entry.first.now rows.entry.second.now) result }
 {
-    let mut x = 0;
-    // A while: it goes on by what a part holds.
-    while x < c.len() {
-        let m = (c.len() - x).min(64);
-        let right = check_part(rule, rows.from_pair(x), &c[x..x + m]);
-        if right < m {
+    for (i, part) in c.chunks(64).enumerate() {
+        let x = 64 * i;
+        let right = check_part(rule, rows.from_pair(x), part);
+        if right < part.len() {
             return x + right;
         }
-        x += m;
     }
     c.len()
 }

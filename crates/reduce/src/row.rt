@@ -30,7 +30,7 @@ fn write_pairs<R: Reduce>(rule: &R, rows: Rows, o: &mut [u32])
 {
     let mut part = [0u32; 64];
     let mut x = 0;
-    // A while: it goes on by what a part holds.
+    // A while: `chunks_mut` was tried, and when what it lends is given back, a proof knows how long o is and no texel of it.
     while x < o.len() {
         let m = (o.len() - x).min(64);
         row(rule, rows.from_pair(x), &mut part[..m]);
