@@ -1,4 +1,4 @@
-// The two rows that a row of the next level is made from, one as long as the other.
+// The two rows that a row of the next level is made from, one as long as the other, and what stands under them.
 ghost use Rattle.std.specs.Prelude.{◌≡◌, ◌+◌, ◌*◌, ◌≤◌, length, drop};
 ghost use Rattle.kinds.specs.Quads.{Pairs};
 
@@ -8,17 +8,18 @@ use crate::channel::Quad;
 pub struct Rows<'a> {
     pub first: &'a [u32],
     pub second: &'a [u32],
-    ghost alike: { length second.now ≡ length first.now },
+    pub ghost alike: { length second.now ≡ length first.now },
+}
+
+// Texels that stand under two rows, each under its pair of both.
+#[derive(Clone, Copy)]
+pub struct Standing<'a> {
+    pub above: Rows<'a>,
+    pub texels: &'a [u32],
+    pub ghost paired: { 2 * length texels.now ≤ length above.first.now },
 }
 
 impl<'a> Rows<'a> {
-    pub fn new(first: &'a [u32], second: &'a [u32]) -> Rows<'a>
-        requires { length second.now ≡ length first.now }
-        ensures { (result.first.now ≡ first.now) × (result.second.now ≡ second.now) }
-    {
-        Rows { first, second }
-    }
-
     // The four texels of place x: a pair of each row.
     pub fn pair(self, x: usize) -> Quad<u32>
         requires { 2 * x + 2 ≤ length self.first.now }

@@ -5,7 +5,7 @@ ghost use Rattle.rules.specs.declared.Packing.TheVariants.{Nearest};
 ghost use Rattle.rules.specs.Kinds.{red_of, green_of, blue_of, alpha_of};
 ghost use Rattle.rules.specs.Reducing.{linear_of};
 
-use crate::above::Rows;
+use crate::above::Standing;
 use crate::channel::Quad;
 use crate::rule::Reduce;
 
@@ -55,10 +55,10 @@ impl Reduce for Rounded {
     }
 
     // All are looked at, so that they can be looked at several at once.
-    fn all_right(&self, rows: Rows, c: &[u32]) -> bool {
+    fn all_right(&self, row: Standing) -> bool {
         let mut unlike = 0u32;
-        for (x, texel) in c.iter().enumerate() {
-            unlike += (self.reduced(rows.pair(x)) != *texel) as u32;
+        for (x, texel) in row.texels.iter().enumerate() {
+            unlike += (self.reduced(row.above.pair(x)) != *texel) as u32;
         }
         unlike == 0
     }

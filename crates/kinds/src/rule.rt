@@ -3,7 +3,7 @@ ghost use Rattle.std.specs.Prelude.{◌≡◌, true, ℕ, ◌*◌, ◌<◌, ◌�
 ghost use Rattle.rules.specs.Levels.{tab};
 ghost use Rattle.kinds.specs.Runs.{pair_of};
 
-use crate::above::Rows;
+use crate::above::{Rows, Standing};
 use crate::channel::Quad;
 
 pub trait Reduce {
@@ -19,11 +19,10 @@ pub trait Reduce {
         false
     }
 
-    // Whether c is told to be the row of these two without a row being made.
-    fn all_right(&self, rows: Rows, c: &[u32]) -> bool
-        requires few { length c.now < 4294967296 }
-        requires pairs { 2 * length c.now ≤ length rows.first.now }
-        ensures { (result ≡ true) → (k : ℕ) → k < length c.now → get_or c.now k 0 ≡ pair_of (rule self.now) rows.entry.first.now rows.entry.second.now k }
+    // Whether texels are told to be those made of the rows above without a row being made.
+    fn all_right(&self, row: Standing) -> bool
+        requires few { length row.texels.now < 4294967296 }
+        ensures { (result ≡ true) → (k : ℕ) → k < length row.entry.texels.now → get_or row.entry.texels.now k 0 ≡ pair_of (rule self.now) row.entry.above.first.now row.entry.above.second.now k }
     {
         false
     }

@@ -8,36 +8,36 @@ ghost use Rattle.reduce.specs.Right.{Right};
 
 use crate::alike::alike;
 use crate::row::narrow;
-use kinds::above::Rows;
-use kinds::rule::{Reduce, row};
+use kinds::above::{Rows, Standing};
+use kinds::rule::{Reduce, row as make_row};
 
 // A part of it, 64 texels at most: told by the rule, or made and compared.
-fn check_part<R: Reduce>(rule: &R, rows: Rows, c: &[u32]) -> usize
-    requires { (length c.now ≤ 64) × (2 * length c.now ≤ length rows.first.now) }
-    ensures { Right 0 c.now (length c.now) (pair_of (R.rule rule.now) rows.entry.first.now rows.entry.second.now) result }
+fn check_part<R: Reduce>(rule: &R, row: Standing) -> usize
+    requires { length row.texels.now ≤ 64 }
+    ensures { Right 0 row.entry.texels.now (length row.entry.texels.now) (pair_of (R.rule rule.now) row.entry.above.first.now row.entry.above.second.now) result }
 {
-    let n = c.len();
-    if rule.all_right(rows, c) {
+    let n = row.texels.len();
+    if rule.all_right(row) {
         return n;
     }
     let mut made = [0u32; 64];
-    row(rule, rows, &mut made[..n]);
-    alike(&made[..n], c)
+    make_row(rule, row.above, &mut made[..n]);
+    alike(&made[..n], row.texels)
 }
 
 // A row each of whose texels has its pair of each row, part after part.
-fn check_pairs<R: Reduce>(rule: &R, rows: Rows, c: &[u32]) -> usize
-    requires { 2 * length c.now ≤ length rows.first.now }
-    ensures { Right 0 c.now (length c.now) (pair_of (R.rule rule.now) rows.entry.first.now rows.entry.second.now) result }
+fn check_pairs<R: Reduce>(rule: &R, row: Standing) -> usize
+    ensures { Right 0 row.entry.texels.now (length row.entry.texels.now) (pair_of (R.rule rule.now) row.entry.above.first.now row.entry.above.second.now) result }
 {
-    for (i, part) in c.chunks(64).enumerate() {
+    for (i, texels) in row.texels.chunks(64).enumerate() {
         let x = 64 * i;
-        let right = check_part(rule, rows.from_pair(x), part);
-        if right < part.len() {
+        let above = row.above.from_pair(x);
+        let right = check_part(rule, Standing { above, texels });
+        if right < texels.len() {
             return x + right;
         }
     }
-    c.len()
+    row.texels.len()
 }
 
 // The row c, against the two above.
@@ -48,5 +48,11 @@ pub fn check_row<R: Reduce>(rule: &R, rows: Rows, c: &[u32]) -> usize
     if rows.first.len() < 2 {
         return alike(&[narrow(rule, rows.first[0], rows.second[0])], c);
     }
-    check_pairs(rule, rows, c)
+    check_pairs(
+        rule,
+        Standing {
+            above: rows,
+            texels: c,
+        },
+    )
 }

@@ -13,6 +13,6 @@ invariant-loop-i g l =
     let n = enumerate_count l.i-iterator in
     record {
       size : chunks_size (enumerate_source l.i-iterator) ≡ 64;
-      left : chunks_rest (enumerate_source l.i-iterator) ≡ drop (64 * n) l.c;
-      run : Over 0 l.c (min (64 * n) (length l.c)) (pair_of (g.R.Reduce.rule l.rule) l.rows.first.now l.rows.second.now) l.c;
+      left : chunks_rest (enumerate_source l.i-iterator) ≡ drop (64 * n) l.row.texels.now;
+      run : Over 0 l.row.texels.now (min (64 * n) (length l.row.texels.now)) (pair_of (g.R.Reduce.rule l.rule) l.row.above.first.now l.row.above.second.now) l.row.texels.now;
     }

@@ -12,5 +12,5 @@ abbrev pub invariant-loop-x : goal.invariant-loop-x
 invariant-loop-x l =
     record {
       most : l.unlike ≤ l.x;
-      same : (l.unlike ≡ 0) → (k : ℕ) → k < l.x → get_or l.c k 0 ≡ pair_of (linear_of Nearest) l.rows.first.now l.rows.second.now k;
+      same : (l.unlike ≡ 0) → (k : ℕ) → k < l.x → get_or l.row.texels.now k 0 ≡ pair_of (linear_of Nearest) l.row.above.first.now l.row.above.second.now k;
     }
