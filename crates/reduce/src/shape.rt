@@ -20,6 +20,14 @@ pub struct Above {
     pub second: usize,
 }
 
+// A level, at the front of some texels, and the next behind it.
+#[derive(Clone, Copy)]
+pub struct Followed<'a> {
+    pub shape: Shape,
+    pub texels: &'a [u32],
+    pub ghost room: { shape.faces * shape.height * shape.width + shape.faces * half shape.height * half shape.width ≤ length texels.now },
+}
+
 impl Above {
     // The two rows of a level, w wide.
     pub fn rows(self, w: usize, level: &[u32]) -> Rows<'_>
