@@ -45,7 +45,8 @@ pub fn fill(kind: Kind, packing: Packing, shape: Shape, left: usize, s: &mut [u3
     }
 }
 
-// The same of a check.
+// The same of a check. One function that takes a closure was tried: nothing is inferred of what the two closures do, so each would say these
+// same clauses.
 #[inline(never)]
 fn check_srgb(packing: Packing, pair: Followed) -> usize
     ensures { NextRight (srgb_of packing) pair.entry.shape.faces pair.entry.shape.width pair.entry.shape.height pair.entry.texels.now result }
