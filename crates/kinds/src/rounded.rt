@@ -55,10 +55,10 @@ impl Reduce for Rounded {
     }
 
     // All are looked at, so that they can be looked at several at once.
-    fn all_right(&self, row: Standing) -> bool {
+    fn all_right(&self, standing: Standing) -> bool {
         let mut unlike = 0u32;
-        for (x, texel) in row.texels.iter().enumerate() {
-            unlike += (self.reduced(row.above.pair(x)) != *texel) as u32;
+        for (x, texel) in standing.texels.iter().enumerate() {
+            unlike += (self.reduced(standing.above.pair(x)) != *texel) as u32;
         }
         unlike == 0
     }

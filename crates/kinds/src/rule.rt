@@ -1,7 +1,7 @@
 // A way to make one texel of four, and a row of such texels from the two rows above.
 ghost use Rattle.std.specs.Prelude.{◌≡◌, true, ℕ, ◌*◌, ◌<◌, ◌≤◌, length, get_or};
 ghost use Rattle.rules.specs.Levels.{tab};
-ghost use Rattle.kinds.specs.Runs.{pair_of};
+ghost use Rattle.kinds.specs.Runs.{pairs_of};
 
 use crate::above::{Rows, Standing};
 use crate::channel::Quad;
@@ -20,9 +20,9 @@ pub trait Reduce {
     }
 
     // Whether texels are told to be those made of the rows above without a row being made.
-    fn all_right(&self, row: Standing) -> bool
-        requires few { length row.texels.now < 4294967296 }
-        ensures { (result ≡ true) → (k : ℕ) → k < length row.entry.texels.now → get_or row.entry.texels.now k 0 ≡ pair_of (rule self.now) row.entry.above.first.now row.entry.above.second.now k }
+    fn all_right(&self, standing: Standing) -> bool
+        requires few { length standing.texels.now < 4294967296 }
+        ensures { (result ≡ true) → (k : ℕ) → k < length standing.entry.texels.now → get_or standing.entry.texels.now k 0 ≡ pairs_of (rule self.now) standing.entry.above k }
     {
         false
     }
@@ -33,7 +33,7 @@ pub trait Reduce {
 #[inline(always)]
 pub fn row<R: Reduce>(rule: &R, rows: Rows, o: &mut [u32])
     requires { 2 * length o.old ≤ length rows.first.now }
-    ensures { o.new ≡ tab (length o.old) (pair_of (R.rule rule.now) rows.entry.first.now rows.entry.second.now) }
+    ensures { o.new ≡ tab (length o.old) (pairs_of (R.rule rule.now) rows.entry) }
 {
     for (x, texel) in o.iter_mut().enumerate() {
         *texel = rule.reduced(rows.pair(x));

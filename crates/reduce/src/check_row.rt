@@ -2,48 +2,48 @@
 // the first that is not.
 ghost use Rattle.std.specs.Prelude.{◌≡◌, ◌*◌, ◌≤◌, length};
 ghost use Rattle.rules.specs.Sizes.{half};
-ghost use Rattle.kinds.specs.Runs.{pair_of};
-ghost use Rattle.reduce.specs.Rows.{held_of};
+ghost use Rattle.kinds.specs.Runs.{pairs_of};
+ghost use Rattle.reduce.specs.Rows.{row_of};
 ghost use Rattle.reduce.specs.Right.{Right};
 
 use crate::alike::alike;
 use crate::row::narrow;
 use kinds::above::{Rows, Standing};
-use kinds::rule::{Reduce, row as make_row};
+use kinds::rule::{Reduce, row};
 
 // A part of it, 64 texels at most: told by the rule, or made and compared.
-fn check_part<R: Reduce>(rule: &R, row: Standing) -> usize
-    requires { length row.texels.now ≤ 64 }
-    ensures { Right 0 row.entry.texels.now (length row.entry.texels.now) (pair_of (R.rule rule.now) row.entry.above.first.now row.entry.above.second.now) result }
+fn check_part<R: Reduce>(rule: &R, standing: Standing) -> usize
+    requires { length standing.texels.now ≤ 64 }
+    ensures { Right 0 standing.entry.texels.now (length standing.entry.texels.now) (pairs_of (R.rule rule.now) standing.entry.above) result }
 {
-    let n = row.texels.len();
-    if rule.all_right(row) {
+    let n = standing.texels.len();
+    if rule.all_right(standing) {
         return n;
     }
     let mut made = [0u32; 64];
-    make_row(rule, row.above, &mut made[..n]);
-    alike(&made[..n], row.texels)
+    row(rule, standing.above, &mut made[..n]);
+    alike(&made[..n], standing.texels)
 }
 
 // A row each of whose texels has its pair of each row, part after part.
-fn check_pairs<R: Reduce>(rule: &R, row: Standing) -> usize
-    ensures { Right 0 row.entry.texels.now (length row.entry.texels.now) (pair_of (R.rule rule.now) row.entry.above.first.now row.entry.above.second.now) result }
+fn check_pairs<R: Reduce>(rule: &R, standing: Standing) -> usize
+    ensures { Right 0 standing.entry.texels.now (length standing.entry.texels.now) (pairs_of (R.rule rule.now) standing.entry.above) result }
 {
-    for (i, texels) in row.texels.chunks(64).enumerate() {
+    for (i, texels) in standing.texels.chunks(64).enumerate() {
         let x = 64 * i;
-        let above = row.above.from_pair(x);
+        let above = standing.above.from_pair(x);
         let right = check_part(rule, Standing { above, texels });
         if right < texels.len() {
             return x + right;
         }
     }
-    row.texels.len()
+    standing.texels.len()
 }
 
 // The row c, against the two above.
 pub fn check_row<R: Reduce>(rule: &R, rows: Rows, c: &[u32]) -> usize
     requires { (1 ≤ length rows.first.now) × (length c.now ≡ half (length rows.first.now)) }
-    ensures { Right 0 c.now (length c.now) (held_of (R.rule rule.now) (length rows.entry.first.now) rows.entry.first.now rows.entry.second.now) result }
+    ensures { Right 0 c.now (length c.now) (row_of (R.rule rule.now) rows.entry) result }
 {
     if rows.first.len() < 2 {
         return alike(&[narrow(rule, rows.first[0], rows.second[0])], c);

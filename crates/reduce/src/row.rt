@@ -2,8 +2,8 @@
 ghost use Rattle.std.specs.Prelude.{◌≡◌, ◌*◌, ◌≤◌, length};
 ghost use Rattle.rules.specs.Sizes.{half};
 ghost use Rattle.rules.specs.Levels.{tab};
-ghost use Rattle.kinds.specs.Runs.{pair_of};
-ghost use Rattle.reduce.specs.Rows.{held_of};
+ghost use Rattle.kinds.specs.Runs.{pairs_of};
+ghost use Rattle.reduce.specs.Rows.{row_of};
 
 use kinds::above::Rows;
 use kinds::channel::Quad;
@@ -26,7 +26,7 @@ pub fn narrow<R: Reduce>(rule: &R, p: u32, q: u32) -> u32
 #[inline(never)]
 fn write_pairs<R: Reduce>(rule: &R, rows: Rows, o: &mut [u32])
     requires { 2 * length o.old ≤ length rows.first.now }
-    ensures { o.new ≡ tab (length o.old) (pair_of (R.rule rule.now) rows.entry.first.now rows.entry.second.now) }
+    ensures { o.new ≡ tab (length o.old) (pairs_of (R.rule rule.now) rows.entry) }
 {
     let mut part = [0u32; 64];
     let mut x = 0;
@@ -42,7 +42,7 @@ fn write_pairs<R: Reduce>(rule: &R, rows: Rows, o: &mut [u32])
 // The row o, from the two above.
 pub fn write_row<R: Reduce>(rule: &R, rows: Rows, o: &mut [u32])
     requires { (1 ≤ length rows.first.now) × (length o.old ≡ half (length rows.first.now)) }
-    ensures { o.new ≡ tab (length o.old) (held_of (R.rule rule.now) (length rows.entry.first.now) rows.entry.first.now rows.entry.second.now) }
+    ensures { o.new ≡ tab (length o.old) (row_of (R.rule rule.now) rows.entry) }
 {
     if rows.first.len() < 2 {
         o[0] = narrow(rule, rows.first[0], rows.second[0]);

@@ -4,7 +4,7 @@ use native.Mathlib.Omega.{arith}
 use lib.ListN.{length, drop, length-drop}
 use Rattle.std.specs.Iterator.Adapters.{enumerate_source, enumerate_count}
 use Rattle.std.specs.Slice.Iter.{chunks_rest}
-use Rattle.kinds.specs.Runs.{pair_of}
+use Rattle.kinds.specs.Runs.{pair_of, pairs_of}
 use Rattle.kinds.proofs.Runs.{Over, over_first}
 use Rattle.reduce.specs.Right.{Right}
 use Rattle.reduce.proofs.Parts.{Part, part-of, part-right}
@@ -14,30 +14,30 @@ use Rattle.reduce.proofs.check_row.check_pairs.Goals as goal
 use Rattle.reduce.proofs.check_row.check_pairs.Goals.{In-Some, After-check_part-right}
 
 -- the part that is looked at
-here : (g : _) (c : goal.In-Some g) → Part c.args.row.texels.now c.in-Some.texels.now (chunks_rest (enumerate_source c.next.new.self)) c.in-Some.i
+here : (g : _) (c : goal.In-Some g) → Part c.args.standing.texels.now c.in-Some.texels.now (chunks_rest (enumerate_source c.next.new.self)) c.in-Some.i
 here g c =
     let steps = c.in-Some.ensures.steps in
     let i = c.loop-i.invariant in
-    part-of (i.left ∙ ap (λ (k : ℕ). drop (64 * k) c.args.row.texels.now) (sym steps.1)) steps.0.1.0 (rw i.size at steps.0.1.1) steps.0.1.2
+    part-of (i.left ∙ ap (λ (k : ℕ). drop (64 * k) c.args.standing.texels.now) (sym steps.1)) steps.0.1.0 (rw i.size at steps.0.1.1) steps.0.1.2
 
 -- what stands before it
 stands : (g : _) (c : goal.In-Some g)
-    → let a = c.args in Over 0 a.row.texels.now (64 * c.in-Some.i) (pair_of (g.R.Reduce.rule a.rule.now) a.row.above.first.now a.row.above.second.now) a.row.texels.now
+    → let a = c.args in Over 0 a.standing.texels.now (64 * c.in-Some.i) (pairs_of (g.R.Reduce.rule a.rule.now) a.standing.above) a.standing.texels.now
 stands g c = rw (here g c).before at (rw (← c.in-Some.ensures.steps.1) at c.loop-i.invariant.run)
 
 -- what is found in it
 found : (g : _) (c : goal.After-check_part-right g)
     → let a = c.args in
     let x = 64 * c.in-Some.i in
-    Right x a.row.texels.now (length c.in-Some.texels.now) (pair_of (g.R.Reduce.rule a.rule.now) (drop (2 * x) a.row.above.first.now) (drop (2 * x) a.row.above.second.now)) c.check_part-right.result
+    Right x a.standing.texels.now (length c.in-Some.texels.now) (pair_of (g.R.Reduce.rule a.rule.now) (drop (2 * x) a.standing.above.first.now) (drop (2 * x) a.standing.above.second.now)) c.check_part-right.result
 found g c =
     part-right (here g (goal.at.After-check_part-right g c).In-Some) (rw (c.from_pair-above.ensures.0, c.from_pair-above.ensures.1) at c.check_part-right.ensures)
 
 pub loop-i-init : goal.loop-i-init
 loop-i-init g c =
-    let none : min (64 * 0) (length c.args.row.texels.now) ≡ 0 = omega arith in
+    let none : min (64 * 0) (length c.args.standing.texels.now) ≡ 0 = omega arith in
     rw (c.into_iter-i-iterator.ensures.into_iter_gives, c.enumerate-i-items.ensures.source, c.enumerate-i-items.ensures.count)
-    (record { size = c.chunks.ensures.size; left = c.chunks.ensures.rest; run = rw none (over_first _ _ _ (omega arith)) })
+    (record { size = c.chunks.ensures.size; left = c.chunks.ensures.rest; run = rw none (over_first 0 c.args.standing.texels.now (pairs_of (g.R.Reduce.rule c.args.rule.now) c.args.standing.above) (omega arith)) })
 
 pub returns-then-right-texels : goal.returns-then-right-texels
 returns-then-right-texels g c =
@@ -55,7 +55,7 @@ loop-i-preserved g c =
       left = rw (steps.2, ← steps.1) part.behind;
       run =
           rw (steps.2, ← steps.1, part.more)
-          (turn-more {n = length c.args.row.texels.now} (stands g at.In-Some) (omega arith) part.room (λ k lt. pair-on (g.R.Reduce.rule _) _ _ _ k)
+          (turn-more {n = length c.args.standing.texels.now} (stands g at.In-Some) (omega arith) part.room (λ k lt. pair-on (g.R.Reduce.rule _) _ _ _ k)
           (found g at.After-check_part-right) c.if-right-texels.false);
     }
 
@@ -63,7 +63,7 @@ pub returns : goal.returns
 returns g c =
     let i = c.loop-i.invariant in
     let n = enumerate_count c.loop-i.i-iterator in
-    let left = length-drop (64 * n) c.args.row.texels.now in
+    let left = length-drop (64 * n) c.args.standing.texels.now in
     let none = sym (ap length i.left) ∙ c.in-None.ensures.steps.0.1.0 in
-    let all : min (64 * n) (length c.args.row.texels.now) ≡ length c.args.row.texels.now = omega arith in
-    rw all at (right-all i.run)
+    let all : min (64 * n) (length c.args.standing.texels.now) ≡ length c.args.standing.texels.now = omega arith in
+    rw all at (right-all {f = pairs_of (g.R.Reduce.rule c.args.rule.now) c.args.standing.above} i.run)

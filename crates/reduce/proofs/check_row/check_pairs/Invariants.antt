@@ -4,7 +4,7 @@ use Prim.Native.Nat.{◌*◌, min}
 use lib.ListN.{length, drop}
 use Rattle.std.specs.Iterator.Adapters.{enumerate_source, enumerate_count}
 use Rattle.std.specs.Slice.Iter.{chunks_rest, chunks_size}
-use Rattle.kinds.specs.Runs.{pair_of}
+use Rattle.kinds.specs.Runs.{pairs_of}
 use Rattle.kinds.proofs.Runs.{Over}
 use Rattle.reduce.proofs.check_row.check_pairs.Given as goal
 
@@ -13,6 +13,6 @@ invariant-loop-i g l =
     let n = enumerate_count l.i-iterator in
     record {
       size : chunks_size (enumerate_source l.i-iterator) ≡ 64;
-      left : chunks_rest (enumerate_source l.i-iterator) ≡ drop (64 * n) l.row.texels.now;
-      run : Over 0 l.row.texels.now (min (64 * n) (length l.row.texels.now)) (pair_of (g.R.Reduce.rule l.rule) l.row.above.first.now l.row.above.second.now) l.row.texels.now;
+      left : chunks_rest (enumerate_source l.i-iterator) ≡ drop (64 * n) l.standing.texels.now;
+      run : Over 0 l.standing.texels.now (min (64 * n) (length l.standing.texels.now)) (pairs_of (g.R.Reduce.rule l.rule) l.standing.above) l.standing.texels.now;
     }

@@ -9,7 +9,7 @@ use Rattle.kinds.proofs.rounded.RoundedReduce.all_right.Goals as goal
 
 pub loop-x-preserved : goal.loop-x-preserved
 loop-x-preserved c =
-    let d = differs c.reduced.result (get_or c.args.row.texels.now c.loop-x.x 0) in
+    let d = differs c.reduced.result (get_or c.args.standing.texels.now c.loop-x.x 0) in
     let i = c.loop-x.invariant in
     record {
       most = omega (arith, d.0, i.most);
