@@ -1,3 +1,4 @@
+pub mod Quads
 pub mod Runs
 pub mod Rows
 pub mod Codes

@@ -1,8 +1,8 @@
 // Four of a thing, texels or one channel of each, and a texel of one channel's rule.
-ghost use Rattle.std.specs.Prelude.{◌≡◌, ◌+◌, ◌*◌, ◌≤◌, length};
+ghost use Rattle.std.specs.Prelude.{◌≡◌};
 ghost use Rattle.rules.specs.Floats.{mean_of};
 ghost use Rattle.rules.specs.Reducing.{each_of};
-ghost use Rattle.kinds.specs.Quads.{Pairs, Each, Follows};
+ghost use Rattle.kinds.specs.Quads.{Each, Follows};
 
 use texel::bytes::{alpha, blue, green, red, rgba};
 
@@ -27,20 +27,6 @@ impl<T: Copy> Quad<T> {
             p01: f(self.p01),
             p11: f(self.p11),
         }
-    }
-}
-
-// The four texels of place x: a pair of each of two rows.
-pub fn pairs_at(x: usize, a: &[u32], b: &[u32]) -> Quad<u32>
-    requires { (2 * x + 2 ≤ length a.now) × (2 * x + 2 ≤ length b.now) }
-    ensures { Pairs a.now b.now x result }
-{
-    let x0 = 2 * x;
-    Quad {
-        p00: a[x0],
-        p10: a[x0 + 1],
-        p01: b[x0],
-        p11: b[x0 + 1],
     }
 }
 

@@ -5,7 +5,8 @@ ghost use Rattle.rules.specs.declared.Packing.TheVariants.{Nearest};
 ghost use Rattle.rules.specs.Kinds.{red_of, green_of, blue_of, alpha_of};
 ghost use Rattle.rules.specs.Reducing.{linear_of};
 
-use crate::channel::{Quad, pairs_at};
+use crate::above::Standing;
+use crate::channel::Quad;
 use crate::rule::Reduce;
 
 #[derive(Clone, Copy)]
@@ -54,10 +55,10 @@ impl Reduce for Rounded {
     }
 
     // All are looked at, so that they can be looked at several at once.
-    fn all_right(&self, a: &[u32], b: &[u32], c: &[u32]) -> bool {
+    fn all_right(&self, standing: Standing) -> bool {
         let mut unlike = 0u32;
-        for x in 0..c.len() {
-            unlike += (self.reduced(pairs_at(x, a, b)) != c[x]) as u32;
+        for (x, texel) in standing.texels.iter().enumerate() {
+            unlike += (self.reduced(standing.above.pair(x)) != *texel) as u32;
         }
         unlike == 0
     }

@@ -1,9 +1,10 @@
 // A way to make one texel of four, and a row of such texels from the two rows above.
 ghost use Rattle.std.specs.Prelude.{◌≡◌, true, ℕ, ◌*◌, ◌<◌, ◌≤◌, length, get_or};
 ghost use Rattle.rules.specs.Levels.{tab};
-ghost use Rattle.kinds.specs.Runs.{pair_of};
+ghost use Rattle.kinds.specs.Runs.{pairs_of};
 
-use crate::channel::{Quad, pairs_at};
+use crate::above::{Rows, Standing};
+use crate::channel::Quad;
 
 pub trait Reduce {
     // The texel that takes the place of p00, p10, p01, p11.
@@ -18,11 +19,10 @@ pub trait Reduce {
         false
     }
 
-    // Whether c is told to be the row of a and b without a row being made.
-    fn all_right(&self, a: &[u32], b: &[u32], c: &[u32]) -> bool
-        requires few { length c.now < 4294967296 }
-        requires pairs { (2 * length c.now ≤ length a.now) × (2 * length c.now ≤ length b.now) }
-        ensures { (result ≡ true) → (k : ℕ) → k < length c.now → get_or c.now k 0 ≡ pair_of (rule self.now) a.now b.now k }
+    // Whether texels are told to be those made of the rows above without a row being made.
+    fn all_right(&self, standing: Standing) -> bool
+        requires few { length standing.texels.now < 4294967296 }
+        ensures { (result ≡ true) → (k : ℕ) → k < length standing.entry.texels.now → get_or standing.entry.texels.now k 0 ≡ pairs_of (rule self.now) standing.entry.above k }
     {
         false
     }
@@ -31,11 +31,11 @@ pub trait Reduce {
 // A row, each texel made of its pairs of the two rows above. Compiled into its callers, where the array that it fills is seen to overlap
 // nothing.
 #[inline(always)]
-pub fn row<R: Reduce>(rule: &R, a: &[u32], b: &[u32], o: &mut [u32])
-    requires { (2 * length o.old ≤ length a.now) × (2 * length o.old ≤ length b.now) }
-    ensures { o.new ≡ tab (length o.old) (pair_of (R.rule rule.now) a.now b.now) }
+pub fn row<R: Reduce>(rule: &R, rows: Rows, o: &mut [u32])
+    requires { 2 * length o.old ≤ length rows.first.now }
+    ensures { o.new ≡ tab (length o.old) (pairs_of (R.rule rule.now) rows.entry) }
 {
-    for x in 0..o.len() {
-        o[x] = rule.reduced(pairs_at(x, a, b));
+    for (x, texel) in o.iter_mut().enumerate() {
+        *texel = rule.reduced(rows.pair(x));
     }
 }

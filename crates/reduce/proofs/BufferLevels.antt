@@ -4,33 +4,27 @@
 use mathlib.Core.Path.{◌≡◌, refl, sym, ap, ◌∙◌}
 use mathlib.Core.List.{List}
 use Prim.Native.Nat.{ℕ, ◌+◌, ◌-◌, ◌*◌, ◌/◌, ◌%◌, ◌≤◌, ◌<◌, min}
-use native.Mathlib.Nat.{mod-lt, div-lt_iff_lt-mul, mul-le-mul, mul-le-mul_right, suc-mul, zero-mul}
+use native.Mathlib.Nat.{mod-lt, div-lt_iff_lt-mul, mul-le-mul, suc-mul, zero-mul}
 use native.Mathlib.Numerals.{add-one}
 use native.Mathlib.Omega.{arith}
 use lib.ListN.{length, get_or, take, drop}
-use lib.Seq.{get_or-drop, get_or-take}
-use lib.Arith.{digits_lt, digits_div, digits_mod}
+use lib.Seq.{get_or-drop, get_or-take, length-take-le}
+use lib.Arith.{digits_lt}
 use Rattle.rules.specs.Sizes.{half}
-use Rattle.rules.specs.Levels.{grid, texel, quad, next}
+use Rattle.rules.specs.Levels.{grid, next}
 use Rattle.kinds.specs.Runs.{over}
 use Rattle.reduce.specs.Rows.{held_of}
 use Rattle.reduce.specs.Levels.{Sides, first_row, second_row, written}
 use Rattle.kinds.proofs.Runs.{Over, over_first, over-same, over-more, over-end}
 use Rattle.reduce.proofs.Bounds.{texels, half-most}
-
--- texel i of the level after l, counted through rows and faces
-unfoldable pub cell_of : (ℕ → ℕ → ℕ → ℕ → ℕ) → ℕ → ℕ → ℕ → ℕ → List ℕ → ℕ → ℕ
-cell_of reduce w h w2 h2 l i = quad reduce w h l (i / w2 / h2) (i % w2) (i / w2 % h2)
+use Rattle.reduce.proofs.Levels.{cell_of, row_in, Level}
+use Rattle.reduce.proofs.Levels as list
 
 -- the run of all of them is the next level
 pub over-written : (reduce : ℕ → ℕ → ℕ → ℕ → ℕ) (faces w h : ℕ) (old : List ℕ)
     → over (faces * h * w) old (faces * half h * half w) (cell_of reduce w h (half w) (half h) (take (faces * h * w) old)) ≡ written reduce faces w h old
 unfolding over cell_of next grid written
 over-written reduce faces w h old = refl
-
--- a row below the last has its texels in the level
-pub row_in : {r n : ℕ} (w : ℕ) → r < n → r * w + w ≤ n * w
-row_in {r} w lt = omega (arith, mul-le-mul_right w lt, suc-mul r w)
 
 -- y rows are written: of the level's w by h faces, n texels in all
 pub record Rows (reduce : ℕ → ℕ → ℕ → ℕ → ℕ) (faces w h w2 h2 n : ℕ) (old s : List ℕ) (y : ℕ) : Type 0 where
@@ -79,30 +73,32 @@ module _ {reduce : ℕ → ℕ → ℕ → ℕ → ℕ} {faces w h w2 h2 n : ℕ
         most = rw t.here (texels t.sides);
       }
 
+  level : Level faces w h w2 h2 (take n old)
+  level = record { sides = t.sides; half-w = t.half-w; half-h = t.half-h; long = length-take-le n old (omega (arith, t.room)) ∙ t.here }
+
   -- a texel of the rows that are read is a texel of the level
-  read : (r x : ℕ) → r * w + w ≤ n → x < w → get_or (drop (r * w) s) x 0 ≡ get_or (take n old) (r * w + x) 0
+  read : (r x : ℕ) → r * w + w ≤ n → x < w → get_or (drop (r * w) s) x 0 ≡ get_or (drop (r * w) (take n old)) x 0
   read r x le lt =
-      rw (get_or-drop (r * w) s x 0, over-same t.run (r * w + x) (omega arith)) (sym (get_or-take n old (r * w + x) 0 (omega arith)))
+      rw (get_or-drop (r * w) s x 0, over-same t.run (r * w + x) (omega arith), get_or-drop (r * w) (take n old) x 0)
+      (sym (get_or-take n old (r * w + x) 0 (omega arith)))
 
   -- a texel of the row that is made of them is one of the next level
   pub held-cell : {i : ℕ} → i < faces * h2 → (k : ℕ) → k < half w
       → held_of reduce w (drop (first_row w h h2 i) s) (drop (second_row w h h2 i) s) k ≡ cell_of reduce w h w2 h2 (take n old) (i * w2 + k)
-  unfolding held_of cell_of quad texel
+  unfolding held_of
   held-cell {i} lt k l =
       let p = rows-places lt in
-      let kw : k < w2 = omega (arith, t.half-w) in
       let x₀ : 2 * k < w = omega (arith, t.sides) in
       let x₁ : min (2 * k + 1) (w - 1) < w = omega (arith, t.sides) in
       let r₀ = i / h2 * h + 2 * (i % h2) in
       let r₁ = i / h2 * h + min (2 * (i % h2) + 1) (h - 1) in
       rw (
-        digits_div i kw,
-        digits_mod i kw,
         read r₀ (2 * k) p.texels0 x₀,
         read r₀ (min (2 * k + 1) (w - 1)) p.texels0 x₁,
         read r₁ (2 * k) p.texels1 x₀,
         read r₁ (min (2 * k + 1) (w - 1)) p.texels1 x₁,
       )
+      (list.held-cell level reduce i lt k l)
 
   pub rows_more : y < faces * h2 → {a b : ℕ} (u : List ℕ) → (a ≡ first_row w h h2 y) × (b ≡ second_row w h h2 y)
       → u ≡ over (n + y * w2) s (half w) (held_of reduce w (drop a s) (drop b s)) → Rows reduce faces w h w2 h2 n old u (y + 1)

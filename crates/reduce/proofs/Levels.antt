@@ -6,7 +6,8 @@ use Prim.Native.Nat.{ℕ, ◌+◌, ◌-◌, ◌*◌, ◌/◌, ◌%◌, ◌≤◌
 use native.Mathlib.Nat.{mod-lt, div-lt_iff_lt-mul, mul-le-mul, mul-le-mul_right, suc-mul}
 use native.Mathlib.Numerals.{add-one}
 use native.Mathlib.Omega.{arith}
-use lib.ListN.{length}
+use lib.ListN.{length, take, drop}
+use lib.Seq.{get_or-drop}
 use lib.Arith.{digits_lt, digits_div, digits_mod}
 use borrow.Rule.Slice.PartMut.{put_mid}
 use Rattle.rules.specs.Sizes.{half}
@@ -15,7 +16,7 @@ use Rattle.reduce.specs.Rows.{held_of}
 use Rattle.reduce.specs.Levels.{Sides, first_row, second_row}
 use Rattle.kinds.proofs.Runs.{Over, over-more, over-all}
 use Rattle.reduce.proofs.Bounds.{texels, half-most}
-use Rattle.reduce.proofs.Rows.{over_put, row_at, row-read}
+use Rattle.reduce.proofs.Rows.{over_put, held-row}
 
 -- texel i of the level after l, counted through rows and faces
 unfoldable pub cell_of : (ℕ → ℕ → ℕ → ℕ → ℕ) → ℕ → ℕ → ℕ → ℕ → List ℕ → ℕ → ℕ
@@ -64,35 +65,35 @@ module _ {faces w h w2 h2 : ℕ} {l : List ℕ} (t : Level faces w h w2 h2 l) wh
 
   -- a texel of the row that is made of them is one of the next level
   pub held-cell : (reduce : ℕ → ℕ → ℕ → ℕ → ℕ) (y : ℕ) → y < faces * h2 → (k : ℕ) → k < half w
-      → held_of reduce w (row_at w (first_row w h h2 y) l) (row_at w (second_row w h h2 y) l) k ≡ cell_of reduce w h w2 h2 l (y * w2 + k)
+      → held_of reduce w (drop (first_row w h h2 y) l) (drop (second_row w h h2 y) l) k ≡ cell_of reduce w h w2 h2 l (y * w2 + k)
   unfolding held_of cell_of quad texel
   held-cell reduce y lt k few =
       let kw : k < w2 = omega (arith, t.half-w) in
-      let x₀ : 2 * k < w = omega (arith, t.sides) in
-      let x₁ : min (2 * k + 1) (w - 1) < w = omega (arith, t.sides) in
       let r₀ = y / h2 * h + 2 * (y % h2) in
       let r₁ = y / h2 * h + min (2 * (y % h2) + 1) (h - 1) in
       rw (
         digits_div y kw,
         digits_mod y kw,
-        row-read w (r₀ * w) l (2 * k) x₀,
-        row-read w (r₀ * w) l (min (2 * k + 1) (w - 1)) x₁,
-        row-read w (r₁ * w) l (2 * k) x₀,
-        row-read w (r₁ * w) l (min (2 * k + 1) (w - 1)) x₁,
+        get_or-drop (r₀ * w) l (2 * k) 0,
+        get_or-drop (r₀ * w) l (min (2 * k + 1) (w - 1)) 0,
+        get_or-drop (r₁ * w) l (2 * k) 0,
+        get_or-drop (r₁ * w) l (min (2 * k + 1) (w - 1)) 0,
       )
 
   -- y rows stand, and one more is put behind them
   pub rows_more : (reduce : ℕ → ℕ → ℕ → ℕ → ℕ) {old s u : List ℕ} {y : ℕ} → y < faces * h2 → length old ≡ faces * half h * half w → Over 0 old (y * w2) (cell_of reduce w h w2 h2 l) s
       → {a b : ℕ} → (a ≡ first_row w h h2 y) × (b ≡ second_row w h h2 y)
-      → u ≡ tab w2 (held_of reduce w (row_at w a l) (row_at w b l))
+      → u ≡ tab w2 (held_of reduce w (take w (drop a l)) (take w (drop b l)))
       → Over 0 old ((y + 1) * w2) (cell_of reduce w h w2 h2 l) (put_mid (y * w2) (y * w2 + w2 - y * w2) s u)
   rows_more reduce {old} {s} {u} {y} lt long o {a} {b} e eu =
-      let f = held_of reduce w (row_at w a l) (row_at w b l) in
+      let f = held_of reduce w (take w (drop a l)) (take w (drop b l)) in
       let more : (y + 1) * w2 ≡ y * w2 + w2 = rw (add-one y, suc-mul y w2) refl in
       let all : length old ≡ faces * h2 * w2 = rw (t.half-w, t.half-h) long in
       rw more
       (over-more o (y * w2) w2 f _ (omega arith) (ap (λ (l : List ℕ). put_mid (y * w2) (y * w2 + w2 - y * w2) s l) eu ∙ over_put (y * w2) w2 s f) (omega (arith, row_in w2 lt, all))
-      (λ k few. rw (e.0, e.1) (held-cell reduce y lt k (omega (arith, t.half-w)))))
+      (λ k few.
+      let in-row : k < half w = omega (arith, t.half-w) in
+      held-row reduce w a b l k t.sides.some-w in-row ∙ rw (e.0, e.1) (held-cell reduce y lt k in-row)))
 
   -- all rows stand
   pub rows_end : (reduce : ℕ → ℕ → ℕ → ℕ → ℕ) {old s : List ℕ} {y : ℕ} → y ≡ faces * h2 → length old ≡ faces * half h * half w → Over 0 old (y * w2) (cell_of reduce w h w2 h2 l) s → s ≡ next reduce faces w h l

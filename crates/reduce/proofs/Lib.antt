@@ -1,5 +1,6 @@
 pub mod Bounds
 pub mod Rows
+pub mod Parts
 pub mod Levels
 pub mod Steps
 pub mod Runs

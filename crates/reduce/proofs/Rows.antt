@@ -8,7 +8,6 @@ use native.Mathlib.Nat.{add-zero, zero-mul, add-mul, mul-le-mul_right, mod-lt, d
 use native.Mathlib.Omega.{arith}
 use lib.ListN.{length, get_or, take, drop, set}
 use lib.Seq.{get_or-drop, get_or-take, length-take-le, take_at}
-use borrow.Author.Rules.{part_to_end}
 use borrow.Rule.Slice.PartMut.{put_mid, mid_len, Post-is}
 use Rattle.rules.specs.Sizes.{half}
 use Rattle.rules.specs.Levels.{tab}
@@ -64,12 +63,12 @@ module _ (reduce : ℕ → ℕ → ℕ → ℕ → ℕ) where
 
   -- a turn of the loop over a row: m texels made in a part, and put behind those that stand
   pub part-turn : (a b old s part made put : List ℕ) (x m : ℕ) → Over 0 old x (pair_of reduce a b) s → x + m ≤ length old → m ≤ length part
-      → made ≡ tab (length (take m part)) (pair_of reduce (take (length a - 2 * x) (drop (2 * x) a)) (take (length b - 2 * x) (drop (2 * x) b)))
+      → made ≡ tab (length (take m part)) (pair_of reduce (drop (2 * x) a) (drop (2 * x) b))
       → put ≡ take m (made ++ drop m part)
       → Over 0 old (x + m) (pair_of reduce a b) (put_mid x (x + m - x) s put)
   part-turn a b old s part made put x m o room le em ep =
       let f = pair_of reduce (drop (2 * x) a) (drop (2 * x) b) in
-      let whole : put ≡ tab m f = ep ∙ front-is m part made f le (rw (part_to_end a (2 * x), part_to_end b (2 * x)) at em) in
+      let whole : put ≡ tab m f = ep ∙ front-is m part made f le em in
       over-more o x m f _ (omega arith) (ap (λ (l : List ℕ). put_mid x (x + m - x) s l) whole ∙ over_put x m s f) (omega arith) (λ k lt. pair-on a b x k)
 
   -- rows of two and more: no place is held
@@ -91,12 +90,12 @@ module _ (reduce : ℕ → ℕ → ℕ → ℕ → ℕ) where
       over-all (over-set (over_first 0 o (held_of reduce w a b) (omega arith)) 0 v (omega arith) (omega arith) (narrow-held w v a b one e)) (omega arith)
 
   -- two rows by themselves, and as they lie in a level
-  pub held-row : (w p q : ℕ) (l : List ℕ) (i : ℕ) → 1 ≤ w → i < half w → held_of reduce w (row_at w p l) (row_at w q l) i ≡ held_of reduce w (drop p l) (drop q l) i
+  pub held-row : (w p q : ℕ) (l : List ℕ) (i : ℕ) → 1 ≤ w → i < half w → held_of reduce w (take w (drop p l)) (take w (drop q l)) i ≡ held_of reduce w (drop p l) (drop q l) i
   unfolding held_of
   held-row w p q l i some lt =
       let x₀ : 2 * i < w = omega arith in
       let x₁ : min (2 * i + 1) (w - 1) < w = omega arith in
-      let read = λ (r x : ℕ) (few : x < w). row-read w r l x few ∙ sym (get_or-drop r l x 0) in
+      let read = λ (r x : ℕ) (few : x < w). get_or-take w (drop r l) x 0 few in
       rw (read p (2 * i) x₀, read p (min (2 * i + 1) (w - 1)) x₁, read q (2 * i) x₀, read q (min (2 * i + 1) (w - 1)) x₁)
 
   -- the first of rows

@@ -16,7 +16,7 @@ use Rattle.reduce.specs.Levels.{first_row, second_row, Run}
 use Rattle.reduce.specs.Right.{Right}
 use Rattle.reduce.proofs.Bounds.{half-most}
 use Rattle.reduce.proofs.Levels.{cell_of, cells-next, Level, places, held-cell}
-use Rattle.reduce.proofs.Rows.{row_at, held-row}
+use Rattle.reduce.proofs.Rows.{row_at}
 use Rattle.reduce.proofs.Runs.{run-even}
 use Rattle.reduce.proofs.Standing.{right-ext, right-part, turn-more, turn-stop}
 
@@ -70,9 +70,7 @@ module _ {faces w h w2 h2 : ℕ} {l : List ℕ} (t : Level faces w h w2 h2 l) (y
         let row : y + k / half w < faces * h2 = omega (arith, run.inside) in
         let place : (y + k / half w) * w2 + k % half w ≡ y * w2 + k = rw (wide, add-mul y (k / half w) (half w)) (omega (arith, div-add-mod' k (half w))) in
         rw (e.0, e.1, ← run.firsts (k / half w) j, ← run.seconds (k / half w) j)
-        (sym (held-row reduce w (first_row w h h2 (y + k / half w)) (second_row w h h2 (y + k / half w)) l (k % half w) t.sides.some-w i)
-        ∙ held-cell t reduce (y + k / half w) row (k % half w) i
-        ∙ ap (cell_of reduce w h w2 h2 l) place)
+        (held-cell t reduce (y + k / half w) row (k % half w) i ∙ ap (cell_of reduce w h w2 h2 l) place)
 
     -- and right up to their texel r
     module _ (reduce : ℕ → ℕ → ℕ → ℕ → ℕ) {c : List ℕ} (long : length c ≡ faces * h2 * w2) (o : Over 0 c (y * w2) (cell_of reduce w h w2 h2 l) c)

@@ -7,8 +7,8 @@ pub fn alike(made: &[u32], c: &[u32]) -> usize
     requires { length made.now ≡ length c.now }
     ensures { Right 0 c.now (length c.now) (λ k. get_or made.now k 0) result }
 {
-    for k in 0..c.len() {
-        if made[k] != c[k] {
+    for (k, texel) in c.iter().enumerate() {
+        if made[k] != *texel {
             return k;
         }
     }

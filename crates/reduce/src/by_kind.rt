@@ -1,13 +1,13 @@
-// A kind's rule, chosen once a chain, and by a check once a level. Cubemap and Linear are the plain mean, in nearest mode by whole numbers.
-// `fill` and `check_next` have the same arms: a visitor with a method for each rule would be longer than they are.
-ghost use Rattle.std.specs.Prelude.{◌≡◌, ◌+◌, ◌*◌, ◌≤◌, length, get_or, take};
+// A kind's rule: `fill` and `check_next` choose the type, once a call, by an enum. Cubemap and Linear are the plain mean, in nearest mode by
+// whole numbers. Both have the same arms: a visitor with a method for each rule would be longer than they are.
+ghost use Rattle.std.specs.Prelude.{◌≡◌, ◌+◌, ◌*◌, ◌≤◌, length};
 ghost use Rattle.rules.specs.Sizes.{half, start};
-ghost use Rattle.rules.specs.Levels.{next, filled};
+ghost use Rattle.rules.specs.Levels.{filled};
 ghost use Rattle.rules.specs.Kinds.{code_of};
 ghost use Rattle.rules.specs.Reducing.{srgb_of, reduce_of};
-ghost use Rattle.reduce.specs.Right.{Right};
+ghost use Rattle.reduce.specs.Right.{NextRight};
 
-use crate::shape::Shape;
+use crate::shape::{Followed, Shape};
 use crate::{chain, check_level};
 use kinds::linear::Linear;
 use kinds::metallic::MetallicRoughness;
@@ -45,36 +45,33 @@ pub fn fill(kind: Kind, packing: Packing, shape: Shape, left: usize, s: &mut [u3
     }
 }
 
-// The same of a check.
+// The same of a check. One function that takes a closure was tried: nothing is inferred of what the two closures do, so each would say these
+// same clauses.
 #[inline(never)]
-fn check_srgb(packing: Packing, shape: Shape, s: &[u32]) -> usize
-    requires room { shape.faces * shape.height * shape.width + shape.faces * half shape.height * half shape.width ≤ length s.now }
-    ensures { Right (shape.faces * shape.height * shape.width) s.now (shape.faces * half shape.height * half shape.width) (λ k. get_or (next (srgb_of packing) shape.faces shape.width shape.height (take (shape.faces * shape.height * shape.width) s.now)) k 0) result }
+fn check_srgb(packing: Packing, pair: Followed) -> usize
+    ensures { NextRight (srgb_of packing) pair.entry.shape.faces pair.entry.shape.width pair.entry.shape.height pair.entry.texels.now result }
 {
-    check_level::check_next(&Srgb::new(packing), shape, s)
+    check_level::check_next(&Srgb::new(packing), pair)
 }
 
 // How many texels of the next level are right behind a level, by a kind and a packing mode.
 #[tactic(auto, unfolding(rules::specs::Reducing::reduce_of))]
 pub fn check_next(kind: Kind, packing: Packing, shape: Shape, s: &[u32]) -> usize
     requires room { shape.faces * shape.height * shape.width + shape.faces * half shape.height * half shape.width ≤ length s.now }
-    ensures { Right (shape.faces * shape.height * shape.width) s.now (shape.faces * half shape.height * half shape.width) (λ k. get_or (next (reduce_of (code_of kind) packing) shape.faces shape.width shape.height (take (shape.faces * shape.height * shape.width) s.now)) k 0) result }
+    ensures { NextRight (reduce_of (code_of kind) packing) shape.faces shape.width shape.height s.now result }
 {
+    let pair = Followed { shape, texels: s };
     match (kind, packing) {
-        (Kind::Srgb, _) => check_srgb(packing, shape, s),
-        (Kind::Normal, _) => check_level::check_next(&Normal { packing }, shape, s),
+        (Kind::Srgb, _) => check_srgb(packing, pair),
+        (Kind::Normal, _) => check_level::check_next(&Normal { packing }, pair),
         (Kind::MetallicRoughness, _) => check_level::check_next(
             &MetallicRoughness { packing },
-            shape,
-            s,
+            pair,
         ),
-        (Kind::Cubemap | Kind::Linear, Packing::Nearest) => check_level::check_next(
-            &Rounded, shape, s,
-        ),
+        (Kind::Cubemap | Kind::Linear, Packing::Nearest) => check_level::check_next(&Rounded, pair),
         (Kind::Cubemap | Kind::Linear, Packing::Truncating) => check_level::check_next(
             &Linear { packing },
-            shape,
-            s,
+            pair,
         ),
     }
 }

@@ -1,6 +1,6 @@
 // Rows of a level as they stand, several at once where they are narrow: their sources lie one behind the other and are a level of their
 // own, and the level after it is those rows.
-ghost use Rattle.std.specs.Prelude.{◌≡◌, ◌+◌, ◌*◌, ◌<◌, ◌≤◌, ℕ, length};
+ghost use Rattle.std.specs.Prelude.{◌≡◌, ◌+◌, ◌*◌, ◌<◌, ◌≤◌, length};
 ghost use Rattle.rules.specs.Sizes.{half};
 ghost use Rattle.reduce.specs.Rows.{rows_of};
 ghost use Rattle.reduce.specs.Levels.{Run};
@@ -58,7 +58,7 @@ fn check_block<R: Reduce>(rule: &R, w: usize, m: usize, above: &[u32], c: &[u32]
     alike(&made[..n], c)
 }
 
-// The m rows c, the first of them against the rows w wide at `above`: a block, or one row.
+// The m rows c, the first of them against the rows w wide at `above`. m stands beside them: it is what tells a block from one row.
 pub fn check_rows<R: Reduce>(
     rule: &R,
     w: usize,
@@ -72,14 +72,8 @@ pub fn check_rows<R: Reduce>(
     ensures { Right 0 c.now (length c.now) (rows_of (R.rule rule.now) w above.first above.second level.now) result }
 {
     let first = above.first;
-    let second = above.second;
     if 1 < m {
         return check_block(rule, w, m, &level[first..first + 2 * m * w], c);
     }
-    check_row(
-        rule,
-        &level[first..first + w],
-        &level[second..second + w],
-        c,
-    )
+    check_row(rule, above.rows(w, level), c)
 }

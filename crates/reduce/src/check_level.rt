@@ -1,11 +1,11 @@
 // A level as it stands, held against what is made of the level before, rows after rows through all its faces.
-ghost use Rattle.std.specs.Prelude.{◌≡◌, ◌+◌, ◌*◌, ◌≤◌, length, get_or, take};
+ghost use Rattle.std.specs.Prelude.{◌≡◌, ◌*◌, length, get_or};
 ghost use Rattle.rules.specs.Sizes.{half};
 ghost use Rattle.rules.specs.Levels.{next};
-ghost use Rattle.reduce.specs.Right.{Right};
+ghost use Rattle.reduce.specs.Right.{Right, NextRight};
 
 use crate::check_block::{check_rows, together};
-use crate::shape::Shape;
+use crate::shape::{Followed, Shape};
 use kinds::rule::Reduce;
 
 // How many texels of c, the level after a level, are right before the first that is not.
@@ -33,12 +33,11 @@ fn check_level<R: Reduce>(rule: &R, shape: Shape, level: &[u32], c: &[u32]) -> u
     c.len()
 }
 
-// Behind the level at the front of s stands the next: how many of its texels are right before the first that is not.
-pub fn check_next<R: Reduce>(rule: &R, shape: Shape, s: &[u32]) -> usize
-    requires room { shape.faces * shape.height * shape.width + shape.faces * half shape.height * half shape.width ≤ length s.now }
-    ensures { Right (shape.faces * shape.height * shape.width) s.now (shape.faces * half shape.height * half shape.width) (λ k. get_or (next (R.rule rule.now) shape.faces shape.width shape.height (take (shape.faces * shape.height * shape.width) s.now)) k 0) result }
+// How many texels of the next level are right before the first that is not.
+pub fn check_next<R: Reduce>(rule: &R, pair: Followed) -> usize
+    ensures { NextRight (R.rule rule.now) pair.entry.shape.faces pair.entry.shape.width pair.entry.shape.height pair.entry.texels.now result }
 {
-    let n = shape.size();
-    let m = shape.next().size();
-    check_level(rule, shape, &s[..n], &s[n..n + m])
+    let n = pair.shape.size();
+    let m = pair.shape.next().size();
+    check_level(rule, pair.shape, &pair.texels[..n], &pair.texels[n..n + m])
 }

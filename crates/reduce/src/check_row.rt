@@ -2,53 +2,57 @@
 // the first that is not.
 ghost use Rattle.std.specs.Prelude.{◌≡◌, ◌*◌, ◌≤◌, length};
 ghost use Rattle.rules.specs.Sizes.{half};
-ghost use Rattle.kinds.specs.Runs.{pair_of};
-ghost use Rattle.reduce.specs.Rows.{held_of};
+ghost use Rattle.kinds.specs.Runs.{pairs_of};
+ghost use Rattle.reduce.specs.Rows.{row_of};
 ghost use Rattle.reduce.specs.Right.{Right};
 
 use crate::alike::alike;
 use crate::row::narrow;
+use kinds::above::{Rows, Standing};
 use kinds::rule::{Reduce, row};
 
 // A part of it, 64 texels at most: told by the rule, or made and compared.
-fn check_part<R: Reduce>(rule: &R, a: &[u32], b: &[u32], c: &[u32]) -> usize
-    requires { (length c.now ≤ 64) × (2 * length c.now ≤ length a.now) × (2 * length c.now ≤ length b.now) }
-    ensures { Right 0 c.now (length c.now) (pair_of (R.rule rule.now) a.now b.now) result }
+fn check_part<R: Reduce>(rule: &R, standing: Standing) -> usize
+    requires { length standing.texels.now ≤ 64 }
+    ensures { Right 0 standing.entry.texels.now (length standing.entry.texels.now) (pairs_of (R.rule rule.now) standing.entry.above) result }
 {
-    let n = c.len();
-    if rule.all_right(a, b, c) {
+    let n = standing.texels.len();
+    if rule.all_right(standing) {
         return n;
     }
     let mut made = [0u32; 64];
-    row(rule, a, b, &mut made[..n]);
-    alike(&made[..n], c)
+    row(rule, standing.above, &mut made[..n]);
+    alike(&made[..n], standing.texels)
 }
 
-// A row each of whose texels has its pairs of a and b, part after part.
-fn check_pairs<R: Reduce>(rule: &R, a: &[u32], b: &[u32], c: &[u32]) -> usize
-    requires { (2 * length c.now ≤ length a.now) × (2 * length c.now ≤ length b.now) }
-    ensures { Right 0 c.now (length c.now) (pair_of (R.rule rule.now) a.now b.now) result }
+// A row each of whose texels has its pair of each row, part after part.
+fn check_pairs<R: Reduce>(rule: &R, standing: Standing) -> usize
+    ensures { Right 0 standing.entry.texels.now (length standing.entry.texels.now) (pairs_of (R.rule rule.now) standing.entry.above) result }
 {
-    let mut x = 0;
-    // A while: it goes on by what a part holds.
-    while x < c.len() {
-        let m = (c.len() - x).min(64);
-        let right = check_part(rule, &a[2 * x..], &b[2 * x..], &c[x..x + m]);
-        if right < m {
+    for (i, texels) in standing.texels.chunks(64).enumerate() {
+        let x = 64 * i;
+        let above = standing.above.from_pair(x);
+        let right = check_part(rule, Standing { above, texels });
+        if right < texels.len() {
             return x + right;
         }
-        x += m;
     }
-    c.len()
+    standing.texels.len()
 }
 
-// The row c, against the rows a and b.
-pub fn check_row<R: Reduce>(rule: &R, a: &[u32], b: &[u32], c: &[u32]) -> usize
-    requires { (1 ≤ length a.now) × (length b.now ≡ length a.now) × (length c.now ≡ half (length a.now)) }
-    ensures { Right 0 c.now (length c.now) (held_of (R.rule rule.now) (length a.now) a.now b.now) result }
+// The row c, against the two above.
+pub fn check_row<R: Reduce>(rule: &R, rows: Rows, c: &[u32]) -> usize
+    requires { (1 ≤ length rows.first.now) × (length c.now ≡ half (length rows.first.now)) }
+    ensures { Right 0 c.now (length c.now) (row_of (R.rule rule.now) rows.entry) result }
 {
-    if a.len() < 2 {
-        return alike(&[narrow(rule, a[0], b[0])], c);
+    if rows.first.len() < 2 {
+        return alike(&[narrow(rule, rows.first[0], rows.second[0])], c);
     }
-    check_pairs(rule, a, b, c)
+    check_pairs(
+        rule,
+        Standing {
+            above: rows,
+            texels: c,
+        },
+    )
 }

@@ -20,12 +20,7 @@ pub fn make_next<R: Reduce>(rule: &R, shape: Shape, level: &[u32], after: &mut [
     for y in 0..below.faces * below.height {
         let above = shape.rows_above(y);
         let at = y * w2;
-        write_row(
-            rule,
-            &level[above.first..above.first + w],
-            &level[above.second..above.second + w],
-            &mut after[at..at + w2],
-        );
+        write_row(rule, above.rows(w, level), &mut after[at..at + w2]);
     }
 }
 

@@ -1,7 +1,9 @@
 // A level's faces and sides, and where the rows of the next level come from.
-ghost use Rattle.std.specs.Prelude.{◌≡◌, ◌+◌, ◌-◌, ◌*◌, ◌<◌, ◌≤◌, min};
+ghost use Rattle.std.specs.Prelude.{◌≡◌, ◌+◌, ◌-◌, ◌*◌, ◌<◌, ◌≤◌, min, length, take, drop};
 ghost use Rattle.rules.specs.Sizes.{half};
 ghost use Rattle.reduce.specs.Levels.{Sides, first_row, second_row};
+
+use kinds::above::Rows;
 
 #[derive(Clone, Copy)]
 pub struct Shape {
@@ -18,11 +20,33 @@ pub struct Above {
     pub second: usize,
 }
 
+// A level, at the front of some texels, and the next behind it.
+#[derive(Clone, Copy)]
+pub struct Followed<'a> {
+    pub shape: Shape,
+    pub texels: &'a [u32],
+    pub ghost room: { shape.faces * shape.height * shape.width + shape.faces * half shape.height * half shape.width ≤ length texels.now },
+}
+
+impl Above {
+    // The two rows of a level, w wide.
+    pub fn rows(self, w: usize, level: &[u32]) -> Rows<'_>
+        requires { (self.first + w ≤ length level.now) × (self.second + w ≤ length level.now) }
+        ensures rows { (result.first.now ≡ take w (drop self.first level.now)) × (result.second.now ≡ take w (drop self.second level.now)) }
+        ensures width { length result.first.now ≡ w }
+    {
+        Rows {
+            first: &level[self.first..self.first + w],
+            second: &level[self.second..self.second + w],
+        }
+    }
+}
+
 // The next level's side: shifted right by 1, and at least 1.
 pub fn halved(s: usize) -> usize
     ensures { result ≡ half s }
 {
-    if s < 2 { 1 } else { s / 2 }
+    (s / 2).max(1)
 }
 
 // y1 = min(2y + 1, previous height - 1)
@@ -34,6 +58,7 @@ fn second(y: usize, h: usize) -> usize
 }
 
 impl Shape {
+    // It asks for the sides, since it makes the value whose ghost field says them.
     pub fn new(faces: usize, width: usize, height: usize) -> Shape
         requires { Sides faces width height }
         ensures { (result.faces ≡ faces) × (result.width ≡ width) × (result.height ≡ height) }

@@ -1,7 +1,9 @@
 -- `kinds::linear::byte` meets its contract: the mean of four values in 0 to 1 lies there, so it packs.
 use borrow.Author.Rules.{rules}
+use Rattle.rules.specs.Floats.{unpack_of, mean_of}
 use Rattle.rules.specs.Reducing.{mean_byte}
 use Rattle.texel.proofs.Unit.{unpacked-in, mean-in}
+use Rattle.kinds.proofs.Quads.{by-each}
 use Rattle.kinds.proofs.linear.byte.Goals as goal
 
 pub pack-requires : goal.pack-requires
@@ -16,4 +18,4 @@ pack-requires c =
 
 pub returns : goal.returns
 unfolding mean_byte
-returns c = let p = c.map.ensures in rw (c.pack.ensures, c.mean.ensures, p.first, p.second, p.third, p.fourth)
+returns c = rw (c.pack.ensures, by-each unpack_of mean_of c.map.ensures c.mean.ensures)

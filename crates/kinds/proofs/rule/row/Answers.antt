@@ -8,7 +8,7 @@ loop-x-init g c = over_first _ _ _ (omega arith)
 
 pub loop-x-preserved : goal.loop-x-preserved
 loop-x-preserved g c =
-    row_more (g.R.Reduce.rule _) _ _ _ _ _ _ _ c.loop-x.invariant c.loop-x-test.true c.pairs_at.ensures c.reduced.ensures
+    row_more (g.R.Reduce.rule _) _ _ _ _ _ _ _ c.loop-x.invariant c.loop-x-test.true c.pair.ensures c.reduced.ensures
 
 pub returns : goal.returns
 returns g c = over-all c.loop-x.invariant (omega arith)

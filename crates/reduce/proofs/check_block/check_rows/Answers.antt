@@ -4,7 +4,7 @@ use Prim.Native.Nat.{ℕ, ◌*◌, ◌<◌}
 use native.Mathlib.Nat.{one-mul}
 use native.Mathlib.Omega.{arith}
 use Rattle.rules.specs.Sizes.{half}
-use Rattle.reduce.proofs.Rows.{row-long, held-row, first-row, rows-behind}
+use Rattle.reduce.proofs.Rows.{held-row, first-row, rows-behind}
 use Rattle.reduce.proofs.Standing.{right-ext}
 use Rattle.reduce.proofs.check_block.check_rows.Goals as goal
 
@@ -23,7 +23,7 @@ returns g c =
     let one : a.m ≡ 1 = omega (arith, room) in
     let wide : a.m * half a.w ≡ half a.w = ap (λ (k : ℕ). k * half a.w) one ∙ one-mul (half a.w) in
     let reduce = g.R.Reduce.rule a.rule.now in
-    let row = rw (row-long a.w a.above.first a.level.now (omega (arith, room))) at c.check_row.ensures in
+    let row = rw (c.rows.ensures.width, c.rows.ensures.rows.0, c.rows.ensures.rows.1) at c.check_row.ensures in
     right-ext _
     (λ k lt.
     let few : k < half a.w = omega (arith, lt, room, wide) in

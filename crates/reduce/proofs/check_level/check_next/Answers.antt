@@ -9,11 +9,11 @@ use Rattle.reduce.proofs.check_level.check_next.Goals as goal
 
 pub returns : goal.returns
 returns g c =
-    let s = c.args.shape in
+    let s = c.args.pair.shape in
     let n = c.next.ensures in
     let m : c.size-m.result ≡ s.faces * half s.height * half s.width = c.size-m.ensures ∙ rw (n.0, n.1, n.2) refl in
     let k = c.size-n.ensures in
-    let room = c.requires.room in
+    let room = c.args.pair.room in
     rw (← k, ← m)
-    (right-part c.size-n.result c.args.s.now (omega (arith, room, k, m))
-    (rw (row-long c.size-m.result c.size-n.result c.args.s.now (omega (arith, room, k, m))) at c.check_level.ensures))
+    (right-part c.size-n.result c.args.pair.texels.now (omega (arith, room, k, m))
+    (rw (row-long c.size-m.result c.size-n.result c.args.pair.texels.now (omega (arith, room, k, m))) at c.check_level.ensures))

@@ -8,7 +8,7 @@ use Rattle.reduce.proofs.check_row.check_part.Goals as goal
 
 pub returns-then-all_right : goal.returns-then-all_right
 returns-then-all_right g c =
-    right-all (stands-all _ (omega arith) (λ k lt. ap (λ i. get_or c.args.c.now i 0) (zero-add k) ∙ c.all_right.ensures c.if-all_right.true k lt))
+    right-all (stands-all _ (omega arith) (λ k lt. ap (λ i. get_or c.args.standing.texels.now i 0) (zero-add k) ∙ c.all_right.ensures c.if-all_right.true k lt))
 
 pub returns : goal.returns
 returns g c = made-right _ _ _ _ (omega arith) c.row.ensures c.alike.ensures

@@ -5,10 +5,10 @@ use Rattle.reduce.proofs.Rows.{narrow-held}
 use Rattle.reduce.proofs.Standing.{right-ext, wide-right}
 use Rattle.reduce.proofs.check_row.check_row.Goals as goal
 
-pub returns-then-a-lt2 : goal.returns-then-a-lt2
-returns-then-a-lt2 g c =
+pub returns-then-rows-lt2 : goal.returns-then-rows-lt2
+returns-then-rows-lt2 g c =
     right-ext _
-    (λ k lt. let z : k ≡ 0 = omega arith in rw z (narrow-held (g.R.Reduce.rule c.args.rule.now) _ _ c.args.a.now c.args.b.now (omega arith) c.narrow.ensures))
+    (λ k lt. let z : k ≡ 0 = omega arith in rw z (narrow-held (g.R.Reduce.rule c.args.rule.now) _ _ c.args.rows.first.now c.args.rows.second.now (omega arith) c.narrow.ensures))
     c.alike.ensures
 
 pub returns : goal.returns

@@ -28,14 +28,11 @@ here t c =
 pub loop-y-init : goal.loop-y-init
 loop-y-init g c = rw (zero-mul c.next-below.result.width) (over_first _ _ _ (omega arith))
 
-pub slice_bounds-write_row-end : goal.slice_bounds-write_row-end
-slice_bounds-write_row-end g c = omega (arith, c.rows_above-above.ensures, here g (goal.at.slice_bounds-write_row-end g c).After-rows_above-above)
-
-pub overflow_add-above-in-loop-y : goal.overflow_add-above-in-loop-y
-overflow_add-above-in-loop-y g c = omega (arith, c.rows_above-above.ensures, here g (goal.at.overflow_add-above-in-loop-y g c).After-rows_above-above)
-
-pub slice_bounds-write_row-end-in-loop-y : goal.slice_bounds-write_row-end-in-loop-y
-slice_bounds-write_row-end-in-loop-y g c = omega (arith, c.rows_above-above.ensures, here g (goal.at.slice_bounds-write_row-end-in-loop-y g c).After-rows_above-above)
+pub rows-requires : goal.rows-requires
+rows-requires g c =
+    let at = here g (goal.at.rows-requires g c).After-rows_above-above in
+    let above = c.rows_above-above.ensures in
+    (omega (arith, above, at.texels0), omega (arith, above, at.texels1))
 
 pub loop-y-preserved : goal.loop-y-preserved
 loop-y-preserved g c =
@@ -46,7 +43,7 @@ loop-y-preserved g c =
     let at = here g (goal.at.loop-y-preserved g c).After-rows_above-above in
     let long = c.loop-y.invariant.as_long in
     let all : length c.args.after.now ≡ c.args.shape.faces * half c.args.shape.height * w2 = rw n.1 c.requires.after in
-    let made = rw (row-long w2 (c.loop-y.y * w2) c.loop-y.after (omega (arith, at.goes)), row-long w above.result.first c.args.level.now (omega (arith, at.texels0, above.ensures))) at c.write_row.ensures in
+    let made = rw (row-long w2 (c.loop-y.y * w2) c.loop-y.after (omega (arith, at.goes)), c.rows.ensures.width, c.rows.ensures.rows.0, c.rows.ensures.rows.1) at c.write_row.ensures in
     rows_more (known g (goal.at.loop-y-preserved g c).After-next-below) (g.R.Reduce.rule _) (rw (n.0, n.2) at c.loop-y-test.true) c.requires.after c.loop-y.invariant above.ensures made
 
 pub returns : goal.returns

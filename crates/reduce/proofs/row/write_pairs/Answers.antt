@@ -11,7 +11,7 @@ loop-x-preserved g c =
     let run = c.loop-x.invariant.1 in
     let m = c.min-m.ensures in
     let long = run.as_long in
-    (omega arith, part-turn (g.R.Reduce.rule _) _ _ _ _ _ _ _ _ _ run (omega arith) (omega arith) c.row.ensures c.copy_from_slice.ensures.after)
+    (omega arith, part-turn (g.R.Reduce.rule _) _ _ _ _ _ _ _ _ _ run (omega arith) (omega arith) (rw (c.from_pair.ensures.0, c.from_pair.ensures.1) at c.row.ensures) c.copy_from_slice.ensures.after)
 
 pub returns : goal.returns
 returns g c = over-all c.loop-x.invariant.1 (omega arith)

@@ -1,24 +1,16 @@
 -- `kinds::metallic::MetallicRoughness::reduced` meets its contract.
-use Rattle.rules.specs.Reducing.{metallic_of}
+use Rattle.rules.specs.Kinds.{green_of, blue_of}
+use Rattle.rules.specs.Reducing.{rough_byte, mean_byte, metallic_of}
+use Rattle.kinds.proofs.Quads.{by-each}
 use Rattle.kinds.proofs.metallic.MetallicRoughnessReduce.reduced.Goals as goal
 
 pub returns : goal.returns
 unfolding metallic_of
 returns c =
-    let g = c.map.ensures in
-    let b = c.map-2.ensures in
     rw (
       c.rgba.ensures,
       c.red.ensures,
-      c.byte.ensures,
-      c.byte-2.ensures,
+      by-each green_of (rough_byte c.args.self.now.packing) c.map.ensures c.byte.ensures,
+      by-each blue_of (mean_byte c.args.self.now.packing) c.map-2.ensures c.byte-2.ensures,
       c.alpha.ensures,
-      g.first,
-      g.second,
-      g.third,
-      g.fourth,
-      b.first,
-      b.second,
-      b.third,
-      b.fourth,
     )

@@ -5,12 +5,12 @@ use Prim.Native.Nat.{ℕ, ◌≤◌, ◌<◌}
 use lib.ListN.{get_or}
 use Rattle.rules.specs.declared.Packing.TheVariants.{Nearest}
 use Rattle.rules.specs.Reducing.{linear_of}
-use Rattle.kinds.specs.Runs.{pair_of}
+use Rattle.kinds.specs.Runs.{pairs_of}
 use Rattle.kinds.proofs.rounded.RoundedReduce.all_right.Given as goal
 
 abbrev pub invariant-loop-x : goal.invariant-loop-x
 invariant-loop-x l =
     record {
       most : l.unlike ≤ l.x;
-      same : (l.unlike ≡ 0) → (k : ℕ) → k < l.x → get_or l.c k 0 ≡ pair_of (linear_of Nearest) l.a l.b k;
+      same : (l.unlike ≡ 0) → (k : ℕ) → k < l.x → get_or l.standing.texels.now k 0 ≡ pairs_of (linear_of Nearest) l.standing.above k;
     }
