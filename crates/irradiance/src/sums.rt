@@ -14,9 +14,11 @@ impl Cubemap<'_> {
         requires { (face < 6) × (y < self.now.height) }
         ensures { result ≡ with_row self.now face y sums }
     {
-        for x in (0..self.width).step_by(64) {
-            let n = (self.width - x).min(64);
-            sums = self.sum_part(tones, face, y, x, n as usize, sums);
+        let width = self.width as usize;
+        let start = ((face as usize) * (self.height as usize) + (y as usize)) * width;
+        let row = &self.texels[start..start + width];
+        for (i, texels) in row.chunks(64).enumerate() {
+            sums = self.sum_part(tones, face, y, 64 * (i as u32), texels, sums);
         }
         sums
     }
