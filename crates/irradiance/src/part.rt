@@ -12,16 +12,6 @@ use crate::root::guess;
 use crate::tones::Tones;
 use rules::{Basis, Rgb, Sh4};
 
-// The places of the columns from the column `from` on.
-fn centres(width: u32, from: u32, us: &mut [Coordinate])
-    requires { (from + length us.old ≤ width) × (width ≤ 4096) }
-    ensures { Placed (λ i. centre_of width (from + i)) us.new }
-{
-    for (i, u) in us.iter_mut().enumerate() {
-        *u = centre(width, from + (i as u32));
-    }
-}
-
 // Guesses at the roots of their distances, in the row at v.
 fn guesses(v: Coordinate, us: &[Coordinate], near: &mut [f64]) {
     for (near, u) in near.iter_mut().zip(us) {
@@ -55,6 +45,16 @@ fn all_get(colour: Rgb, k: Basis<f32>, sums: Sh4) -> Sh4
 }
 
 impl Cubemap<'_> {
+    // The places of the columns from the column `from` on.
+    fn centres(&self, from: u32, us: &mut [Coordinate])
+        requires { from + length us.old ≤ self.now.width }
+        ensures { Placed (λ i. centre_of self.now.width (from + i)) us.new }
+    {
+        for (i, u) in us.iter_mut().enumerate() {
+            *u = centre(self.width, from + (i as u32));
+        }
+    }
+
     // The sums with the texels of a part of row y of a face, which starts at the column `from`.
     pub fn sum_part(
         &self,
@@ -72,7 +72,7 @@ impl Cubemap<'_> {
         let v = centre(self.height, y);
         let mut us = [Coordinate { at: 0.0 }; 64];
         let us = &mut us[..texels.len()];
-        centres(self.width, from, us);
+        self.centres(from, us);
         let mut near = [0.0f64; 64];
         let near = &mut near[..texels.len()];
         guesses(v, us, near);

@@ -9,7 +9,6 @@ use rules::{Basis, Rgb, Sh4};
 
 impl Cubemap<'_> {
     // The sums with row y of a face.
-    #[tactic(auto, using(crate::proofs::Turns::turn_first, crate::proofs::Turns::turn_part, crate::proofs::Turns::turn_all))]
     fn sum_row(&self, tones: &Tones, face: u32, y: u32, mut sums: Sh4) -> Sh4
         requires { (face < 6) × (y < self.now.height) }
         ensures { result ≡ with_row self.now face y sums }
