@@ -42,6 +42,14 @@ module _ {A : Type 0} (step : ℕ → A → A) where
   pub turn_part : (from n all : ℕ) (s r t : A) → from + n ≡ all → t ≡ in_turn_from from n step r → r ≡ in_turn from step s → t ≡ in_turn all step s
   turn_part from n all s r t a e h = rw (sym a) (e ∙ ap (in_turn_from from n step) h ∙ turns-joined from n s)
 
+-- steps that are alike
+pub turns-alike : {A : Type 0} (from n : ℕ) (step other : ℕ → A → A) (s : A) → ((i : ℕ) → i < n → (a : A) → step (from + i) a ≡ other (from + i) a)
+    → in_turn_from from n step s ≡ in_turn_from from n other s
+unfolding in_turn_from
+turns-alike from zero step other s e = refl
+turns-alike from (suc n) step other s e =
+    e n (omega arith) (in_turn_from from n step s) ∙ ap (other (from + n)) (turns-alike from n step other s (λ i h. e i (omega arith)))
+
 pub turns-keep : {A : Type 0} (P : A → Type 0) (n : ℕ) (step : ℕ → A → A) (s : A) → ((i : ℕ) → i < n → (a : A) → P a → P (step i a)) → P s → P (in_turn n step s)
 unfolding in_turn
 turns-keep P zero step s k p = p

@@ -4,7 +4,6 @@ ghost use Rattle.rules.specs.Irradiance.{times_both, folded_of};
 ghost use Rattle.rules.specs.Answers.{irradiance_answer};
 
 use crate::cubemap::Cubemap;
-use crate::refusals::check_irradiance;
 use crate::tones::Tones;
 use rules::{Basis, Refusal, Rgb, Sh4};
 
@@ -41,11 +40,6 @@ fn folded(s: Sh4) -> Sh4
 pub fn irradiance_sh4(kind: u32, width: u32, height: u32, texels: &[u32]) -> Result<Sh4, Refusal>
     ensures { result ≡ irradiance_answer kind width height texels.now }
 {
-    check_irradiance(kind, width, height, texels.len())?;
-    let cubemap = Cubemap {
-        texels,
-        width,
-        height,
-    };
+    let cubemap = Cubemap::new(kind, width, height, texels)?;
     Ok(folded(cubemap.sum_faces(&Tones::new())))
 }

@@ -7,7 +7,6 @@ pub mod call;
 pub mod cubemap;
 pub mod part;
 pub mod place;
-pub mod refusals;
 pub mod root;
 pub mod sums;
 pub mod tones;

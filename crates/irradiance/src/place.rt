@@ -1,35 +1,36 @@
 // The place of a texel on a face, and the basis there.
 ghost use Rattle.std.specs.Prelude.{◌≡◌, ◌≤◌, ◌<◌};
 ghost use Rattle.rules.specs.Floats.{Between, minus1, one32};
-ghost use Rattle.rules.specs.Irradiance.{omega_of, centre_of, distance_of, towards, place_basis};
+ghost use Rattle.rules.specs.Irradiance.{three32, centre_of, distance_of, towards, place_basis};
 
 use crate::root::settled;
 use rules::{Basis, Vector};
 
-// texel_omega: (2.0 / width) * (2.0 / height).
-#[tactic(auto, unfolding(rules::specs::Irradiance::omega_of))]
-pub fn texel_omega(width: u32, height: u32) -> f32
-    requires { (width ≤ 4096) × (height ≤ 4096) }
-    ensures { result ≡ omega_of width height }
-{
-    (2.0 / (width as f32)) * (2.0 / (height as f32))
+// Where a texel's centre lies along a side of its face.
+#[derive(Clone, Copy)]
+pub struct Coordinate {
+    pub at: f32,
+    ghost on_face: { Between minus1 at one32 },
 }
 
 // ((x + 0.5) / side) * 2.0 - 1.0.
 #[tactic(auto, unfolding(rules::specs::Irradiance::centre_of))]
-pub fn centre(side: u32, x: u32) -> f32
+pub fn centre(side: u32, x: u32) -> Coordinate
     requires { (x < side) × (side ≤ 4096) }
-    ensures { result ≡ centre_of side x }
+    ensures { result.at ≡ centre_of side x }
 {
-    (((x as f32) + 0.5) / (side as f32)) * 2.0 - 1.0
+    Coordinate {
+        at: (((x as f32) + 0.5) / (side as f32)) * 2.0 - 1.0,
+    }
 }
 
 // 1 + u*u + v*v, left to right.
 #[tactic(auto, unfolding(rules::specs::Irradiance::distance_of))]
-pub fn distance(u: f32, v: f32) -> f32
-    ensures { result ≡ distance_of u v }
+pub fn distance(u: Coordinate, v: Coordinate) -> f32
+    ensures is { result ≡ distance_of u.at v.at }
+    ensures in_three { Between one32 result three32 }
 {
-    1.0 + u * u + v * v
+    1.0 + u.at * u.at + v.at * v.at
 }
 
 // The direction of a place, before it is divided.
@@ -68,14 +69,13 @@ fn towards(face: u32, u: f32, v: f32) -> Vector<f32>
 }
 
 // The basis at a place of a face, times the weight; `guess` is one at the root.
-pub fn place_basis(omega: f32, face: u32, u: f32, v: f32, guess: f64) -> Basis<f32>
-    requires { Between minus1 u one32 × Between minus1 v one32 }
-    ensures { result ≡ place_basis omega face u v }
+pub fn place_basis(omega: f32, face: u32, u: Coordinate, v: Coordinate, guess: f64) -> Basis<f32>
+    ensures { result ≡ place_basis omega face u.at v.at }
 {
     let d = distance(u, v);
     let r = settled(d, guess);
     let weight = omega / (d * r);
-    let n = towards(face, u, v);
+    let n = towards(face, u.at, v.at);
     Basis {
         constant: 0.282095 * weight,
         y: 0.488603 * (n.y / r) * weight,

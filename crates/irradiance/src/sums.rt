@@ -9,14 +9,15 @@ use rules::{Basis, Rgb, Sh4};
 
 impl Cubemap<'_> {
     // The sums with row y of a face.
-    #[tactic(auto, using(crate::proofs::Turns::turn_first, crate::proofs::Turns::turn_part, crate::proofs::Turns::turn_all))]
     fn sum_row(&self, tones: &Tones, face: u32, y: u32, mut sums: Sh4) -> Sh4
         requires { (face < 6) × (y < self.now.height) }
         ensures { result ≡ with_row self.now face y sums }
     {
-        for x in (0..self.width).step_by(64) {
-            let n = (self.width - x).min(64);
-            sums = self.sum_part(tones, face, y, x, n as usize, sums);
+        let width = self.width as usize;
+        let start = ((face as usize) * (self.height as usize) + (y as usize)) * width;
+        let row = &self.texels[start..start + width];
+        for (i, texels) in row.chunks(64).enumerate() {
+            sums = self.sum_part(tones, face, y, 64 * (i as u32), texels, sums);
         }
         sums
     }

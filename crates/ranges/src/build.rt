@@ -3,8 +3,8 @@ ghost use Rattle.std.specs.Prelude.{◌≡◌, ◌++◌, ◌≤◌, length, drop
 ghost use Rattle.rules.specs.Ranges.{ranges_of, ranges_size};
 ghost use Rattle.rules.specs.Answers.{ranges_answer, ranges_leaves};
 
-use crate::refusals::check_ranges;
-use crate::tile::{Level0, ranges_size, tiles};
+use crate::level0::Level0;
+use crate::tile::{ranges_size, tiles};
 use rules::Refusal;
 
 // Writes the range of every tile.
@@ -30,7 +30,7 @@ pub fn build_ranges(
     ensures answer { result ≡ ranges_answer kind width height texels.now ranges.old }
     ensures leaves { ranges.new ≡ ranges_leaves kind width height texels.now ranges.old }
 {
-    let picture = check_ranges(kind, width, height, texels.len(), ranges.len())?;
-    write_tiles(Level0 { picture, texels }, ranges);
-    Ok(ranges_size(picture.width, picture.height))
+    let level = Level0::new(kind, width, height, texels, ranges)?;
+    write_tiles(level, ranges);
+    Ok(ranges_size(level.picture))
 }

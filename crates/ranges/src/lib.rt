@@ -3,6 +3,7 @@
 #![tactic(auto)]
 
 pub mod build;
+pub mod level0;
 pub mod refusals;
 pub mod replace;
 pub mod scan;

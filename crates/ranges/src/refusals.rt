@@ -1,31 +1,12 @@
-// What both calls refuse, test by test.
-ghost use Rattle.std.specs.Prelude.{◌≡◌, IfOk};
+// What the call that replaces a texel refuses besides.
+ghost use Rattle.std.specs.Prelude.{◌≡◌, length, IfOk};
 ghost use Rattle.rules.specs.Kinds.{code_of};
-ghost use Rattle.rules.specs.Refusals.{ranges_refusal, outside_refusal, replace_refusal};
+ghost use Rattle.rules.specs.Refusals.{outside_refusal, replace_refusal};
 ghost use Rattle.rules.specs.Answers.{done, told};
 
-use crate::tile::ranges_size;
+use crate::level0::Level0;
 use rules::Refusal;
-use texture::{Picture, check_room};
-
-// 1, 2, 3 (level 0), 3 (the ranges), 8.
-#[tactic(auto, using(rules::proofs::Answering::answer_or, rules::proofs::Answering::answer_as), unfolding(rules::specs::Refusals::ranges_refusal))]
-pub fn check_ranges(
-    kind: u32,
-    width: u32,
-    height: u32,
-    texels: usize,
-    ranges: usize,
-) -> Result<Picture, Refusal>
-    ensures told { done result ≡ told (ranges_refusal kind width height texels ranges) }
-    ensures is { IfOk result (λ p. (code_of p.kind ≡ kind) × (p.width ≡ width) × (p.height ≡ height)) }
-{
-    let picture = Picture::new(kind, width, height)?;
-    check_room(picture.level0(), texels)?;
-    check_room(ranges_size(picture.width, picture.height), ranges)?;
-    picture.check_no_cubemap()?;
-    Ok(picture)
-}
+use texture::Picture;
 
 // 14: a place outside the picture.
 #[tactic(auto, unfolding(rules::specs::Refusals::outside_refusal, rules::specs::Refusals::refusal_of, rules::specs::Answers::answer))]
@@ -45,15 +26,15 @@ pub fn check_replace(
     kind: u32,
     width: u32,
     height: u32,
-    texels: usize,
-    ranges: usize,
+    texels: &[u32],
+    ranges: &[u8],
     x: u32,
     y: u32,
 ) -> Result<Picture, Refusal>
-    ensures told { done result ≡ told (replace_refusal kind width height texels ranges x y) }
+    ensures told { done result ≡ told (replace_refusal kind width height (length texels.now) (length ranges.now) x y) }
     ensures is { IfOk result (λ p. (code_of p.kind ≡ kind) × (p.width ≡ width) × (p.height ≡ height)) }
 {
-    let picture = check_ranges(kind, width, height, texels, ranges)?;
+    let picture = Level0::new(kind, width, height, texels, ranges)?.picture;
     check_inside(picture, x, y)?;
     Ok(picture)
 }

@@ -3,8 +3,8 @@ ghost use Rattle.std.specs.Prelude.{◌≡◌, length};
 ghost use Rattle.rules.specs.Refusals.{replace_refusal};
 ghost use Rattle.rules.specs.Answers.{told, replace_leaves, replace_ranges_leaves};
 
+use crate::level0::Level0;
 use crate::refusals::check_replace;
-use crate::tile::Level0;
 use rules::Refusal;
 
 // Puts a texel at (x, y) of level 0 and brings its tile's range up to date. The other levels are not made again.
@@ -23,7 +23,7 @@ pub fn replace_texel(
     ensures texels { texels.new ≡ replace_leaves kind width height texels.old ranges.old x y texel }
     ensures ranges { ranges.new ≡ replace_ranges_leaves kind width height texels.old ranges.old x y texel }
 {
-    let picture = check_replace(kind, width, height, texels.len(), ranges.len(), x, y)?;
+    let picture = check_replace(kind, width, height, texels, ranges, x, y)?;
     let at = (y as usize) * (width as usize) + (x as usize);
     texels[at] = texel;
     let level = Level0 { picture, texels };

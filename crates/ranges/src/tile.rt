@@ -1,30 +1,28 @@
 // One tile of a picture's level 0: its texels are cut out of it, scanned, and their range stored.
 ghost use Rattle.std.specs.Prelude.{◌≡◌, ◌*◌, ◌≤◌, length};
 ghost use Rattle.std.proofs.lemmas.List.Edits.{sets};
-ghost use Rattle.rules.specs.Kinds.{code_of};
 ghost use Rattle.rules.specs.Ranges.{tiles, tile_side, tile, range_of, ranges_size, range_start};
-ghost use Rattle.rules.proofs.Building.{Flat};
 ghost use Rattle.rules.proofs.Tiles.{TileAt};
 ghost use Rattle.ranges.specs.Scans.{RangeIs};
 
+use crate::level0::Level0;
 use crate::scan::{Range, scan};
 use rules::Pair;
 use texture::{Picture, cut};
 
 // Tiles of 16 along a side, the last one smaller.
 pub fn tiles(side: u32) -> u32
-    requires { side ≤ 4096 }
     ensures { result ≡ tiles side }
 {
-    (side + 15) / 16
+    side.div_ceil(16)
 }
 
 // How many bytes the ranges take.
-pub fn ranges_size(width: u32, height: u32) -> usize
-    requires { (width ≤ 4096) × (height ≤ 4096) }
-    ensures { result ≡ ranges_size width height }
+#[tactic(auto, unfolding(rules::specs::Ranges::ranges_size))]
+pub fn ranges_size(picture: Picture) -> usize
+    ensures { result ≡ ranges_size picture.width picture.height }
 {
-    8 * ((tiles(height) as usize) * (tiles(width) as usize))
+    8 * ((tiles(picture.height) as usize) * (tiles(picture.width) as usize))
 }
 
 // The texels of tile i along a side.
@@ -33,14 +31,6 @@ fn tile_side(side: u32, i: u32) -> u32
     ensures { result ≡ tile_side side i }
 {
     u32::min(16, side - 16 * i)
-}
-
-// A picture that is no cubemap, and its level 0.
-#[derive(Clone, Copy)]
-pub struct Level0<'a> {
-    pub picture: Picture,
-    pub texels: &'a [u32],
-    ghost flat: { Flat (code_of picture.kind) picture.width picture.height (length texels.now) },
 }
 
 impl Level0<'_> {

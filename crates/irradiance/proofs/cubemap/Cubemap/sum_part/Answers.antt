@@ -1,47 +1,54 @@
-use mathlib.Core.Path.{◌≡◌, ◌∙◌}
-use native.Mathlib.Nat.{add_assoc}
+use mathlib.Core.Path.{◌≡◌, ap, ◌∙◌}
+use mathlib.Core.Logic.{inl, inr}
+use Prim.Native.Nat.{◌+◌, ◌-◌}
 use native.Mathlib.Omega.{arith}
-use lib.ListN.{length, replicate}
-use lib.Ieee.{of_bits, binary64}
+use lib.ListN.{length}
+use Rattle.std.proofs.Common.{rules}
 use Rattle.std.proofs.lemmas.List.{length-take-le}
-use Rattle.rules.specs.Floats.{Between, minus1, one32}
-use Rattle.irradiance.specs.Holding.{OnFace}
-use Rattle.irradiance.proofs.Spans.{centre-in}
-use Rattle.irradiance.proofs.Turns.{from_next}
-use Rattle.irradiance.proofs.Texels.{on-face, turn}
+use Rattle.std.specs.Slice.Iter.{iter_rest}
+use Rattle.std.specs.Iterator.Adapters.{zip_first, zip_second}
+use Rattle.rules.specs.Irradiance.{centre_of}
+use Rattle.irradiance.proofs.Turns.{from_first, from_next}
+use Rattle.irradiance.proofs.Texels.{left_first, left-next, left-head, placed_first, placed-head, placed-next, turn}
 use Rattle.irradiance.proofs.cubemap.Cubemap.sum_part.Goals as goal
-use Rattle.irradiance.proofs.cubemap.Cubemap.sum_part.Goals.{After-centres, Start}
 
--- the columns' places lie on the face, and so does the row's
-long : (c : goal.After-centres) → length c.centres.new.us ≡ c.args.n
-long c = let few = c.requires.3 in c.centres.auto.us ∙ length-take-le _ _ (omega arith)
+pub loop-texel-init : goal.loop-texel-init
+loop-texel-init c =
+    let it = c.into_iter-texel-iterator.result in
+    let few = c.requires.2 in
+    let all : iter_rest (zip_first (zip_first it)) ≡ c.args.texels.now = search rules in
+    let us : iter_rest (zip_second (zip_first it)) ≡ c.centres.new.us = search rules in
+    let near : iter_rest (zip_second it) ≡ c.guesses.new.near = search rules in
+    let none : length c.args.texels.now - length (iter_rest (zip_first (zip_first it))) ≡ 0 = rw all (omega arith) in
+    record {
+      left = rw all (left_first (omega arith));
+      places = rw us (placed_first (λ i. centre_of c.args.self.now.width (c.args.from + i)) _ _ none c.centres.ensures);
+      as_many = (rw (us, all) (c.centres.auto.us ∙ length-take-le _ _ (omega arith)), rw (near, all) (c.guesses.auto.near ∙ length-take-le _ _ (omega arith)));
+      sums = rw none (from_first _ _ _);
+    }
 
-columns : (c : goal.After-centres) → OnFace c.centres.new.us
-columns c =
-    let p = c.requires in
-    let n = long c in
-    on-face _ _ _ (omega arith) c.args.self.now.cubed.sides.most-w c.centres.ensures
+pub loop-texel-preserved : goal.loop-texel-preserved
+loop-texel-preserved c =
+    let i = c.loop-texel.invariant in
+    let s = c.in-Some.ensures.steps in
+    let t = ap length s.0.0 in
+    let u = ap length s.0.1 in
+    let n = ap length s.1 in
+    let more : length c.args.texels.now - length (iter_rest (zip_first (zip_first c.next.new.self))) ≡ length c.args.texels.now - length (iter_rest (zip_first (zip_first c.loop-texel.texel-iterator))) + 1 = omega (arith, i.left.long) in
+    record {
+      left = rw more (left-next i.left s.0.0);
+      places = rw more (placed-next (λ i. centre_of c.args.self.now.width (c.args.from + i)) _ i.places s.0.1);
+      as_many = (omega arith, omega arith);
+      sums = rw more (from_next _ _ _ _ _ _ (turn _ _ _ _ _ _ _ _ _ _ _ _ _ _ c.texel_omega-omega.ensures (placed-head (λ i. centre_of c.args.self.now.width (c.args.from + i)) _ i.places s.0.1) c.centre-v.ensures (left-head 0 i.left s.0.0) c.decoded.ensures c.place_basis-k.ensures c.all_get-sums.ensures) i.sums);
+    }
 
-row_in : (c : goal.After-centres) → Between minus1 c.centre-v.result one32
-row_in c = let p = c.requires in rw c.centre-v.ensures (centre-in _ _ p.1 c.args.self.now.cubed.sides.most-h)
-
-pub guesses-requires : goal.guesses-requires
-guesses-requires c =
-    let made = (goal.at.guesses-requires c).After-centres in
-    let few = c.requires.3 in
-    (rw (long made, length-take-le c.args.n (replicate 64 (of_bits binary64 0)) few) (omega arith), row_in made, columns made)
-
-pub place_basis-k-requires : goal.place_basis-k-requires
-place_basis-k-requires c =
-    let made = (goal.at.place_basis-k-requires c).After-centres in
-    let n = long made in
-    (columns made _ (omega arith), row_in made)
-
-pub loop-i-preserved : goal.loop-i-preserved
-loop-i-preserved c =
-    let i = c.loop-i.invariant in
-    let t = c.loop-i-test.true in
-    let n = long (goal.at.loop-i-preserved c).After-centres in
-    from_next _ _ _ _ _ _
-    (turn _ _ _ _ _ _ _ _ _ _ _ _ _ _ (add_assoc _ _ _) c.texel_omega-omega.ensures (c.centres.ensures _ (omega arith)) c.centre-v.ensures
-    c.decoded.ensures c.place_basis-k.ensures c.all_get-sums.ensures) i
+pub returns : goal.returns
+returns c =
+    let i = c.loop-texel.invariant in
+    let empty : length (iter_rest (zip_first (zip_first c.loop-texel.texel-iterator))) ≡ 0 =
+    elim c.in-None.ensures.steps [
+      | inl a ↦ elim a.1 [ inl b ↦ b.1.0 | inr b ↦ omega (arith, b.1.0, i.as_many.0) ]
+      | inr a ↦ omega (arith, a.1.0, i.as_many.1)
+    ] in
+    let all : length c.args.texels.now - length (iter_rest (zip_first (zip_first c.loop-texel.texel-iterator))) ≡ length c.args.texels.now = omega arith in
+    rw all at i.sums

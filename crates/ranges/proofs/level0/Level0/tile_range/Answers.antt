@@ -1,4 +1,4 @@
--- `ranges::tile::Level0::tile_range` meets its contract: the cut of order 0 is not refused, and leaves the tile in front.
+-- `ranges::level0::Level0::tile_range` meets its contract: the cut of order 0 is not refused, and leaves the tile in front.
 use mathlib.Core.Path.{refl, sym, subst}
 use mathlib.Core.List.{List}
 use Prim.Native.Nat.{ℕ, ◌*◌, ◌≤◌}
@@ -6,8 +6,8 @@ use lib.ListN.{length}
 use lib.Seq.{length-take-le}
 use Rattle.rules.proofs.Building.{tile-small, tile-cut}
 use Rattle.ranges.specs.Scans.{RangeIs}
-use Rattle.ranges.proofs.tile.Level0.tile_range.Goals as goal
-use Rattle.ranges.proofs.tile.Level0.tile_range.Goals.{After-cut}
+use Rattle.ranges.proofs.level0.Level0.tile_range.Goals as goal
+use Rattle.ranges.proofs.level0.Level0.tile_range.Goals.{After-cut}
 
 fits : (c : goal.After-cut) → c.tile_side-2.result * c.tile_side.result ≤ length c.cut.new.target
 fits c = rw (c.tile_side-2.ensures, c.tile_side.ensures, c.cut.auto.target) (tile-small c.args.self.flat c.requires)

@@ -1,12 +1,12 @@
--- `ranges::tile::Level0::write_tile` meets its contract: the eight bytes of the tile's scan are its range.
+-- `ranges::level0::Level0::write_tile` meets its contract: the eight bytes of the tile's scan are its range.
 use native.Mathlib.Omega.{arith}
 use Prim.Native.Nat.{◌+◌, ◌*◌, ◌≤◌}
 use lib.ListN.{length}
 use Rattle.rules.specs.Ranges.{range_start}
 use Rattle.rules.proofs.Tiles.{tile-room}
 use Rattle.ranges.proofs.Scanning.{range-stored}
-use Rattle.ranges.proofs.tile.Level0.write_tile.Goals as goal
-use Rattle.ranges.proofs.tile.Level0.write_tile.Goals.{After-tiles}
+use Rattle.ranges.proofs.level0.Level0.write_tile.Goals as goal
+use Rattle.ranges.proofs.level0.Level0.write_tile.Goals.{After-tiles}
 
 room : (c : goal.After-tiles) → 8 * (c.args.j * c.tiles.result + c.args.i) + 8 ≤ length c.args.ranges.now
 unfolding range_start
