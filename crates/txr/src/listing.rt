@@ -13,6 +13,7 @@ use levels::picture::Picture;
 use rules::Refusal;
 
 // The line of level m.
+#[tactic(auto, using(crate::proofs::Listings::levels_within), unfolding(crate::specs::Listing::level_line))]
 fn level_line(picture: Picture, chain: &[u32], m: u32, page: &mut Page)
     requires room { count (faces_of (code_of picture.kind)) picture.width picture.height ≤ length chain.now }
     requires level { m ≤ top picture.width picture.height }
@@ -53,6 +54,7 @@ fn list_levels(input: &[u8]) -> Result<Page, Refusal>
 }
 
 // What the listing program writes for what it read.
+#[tactic(auto, using(crate::proofs::Listings::listed))]
 fn listing(input: &[u8]) -> Page
     ensures { result ≡ listing_of input.now }
 {
