@@ -1,4 +1,5 @@
-// Codes to kinds and modes: every code that stands for none is refused.
+// Codes to kinds and modes: every code that stands for none is refused. Three impls of one form: each is its table of codes, as document 01
+// has it.
 ghost use Rattle.std.specs.Prelude.{◌≡◌};
 ghost use Rattle.rules.specs.Kinds.{faces_of, code_of};
 ghost use Rattle.rules.specs.Answers.{kind_decodes, packing_decodes, wrap_decodes};
