@@ -71,6 +71,7 @@ fn lent<F: FnOnce(&Record, &mut [u32]) -> bool>(record: &Record, call: F) -> boo
 }
 
 // Whether the unit answers as the record says. A number that no call has agrees with nothing.
+// An arm a call: they are the calls of the C interface, and take what each of them takes.
 pub fn record_agrees(record: &Record) -> bool {
     let Ok(call) = Call::try_from(record[0]) else {
         return false;

@@ -1,4 +1,5 @@
 // Replays the stored list of answers on the unit and writes how many agree. bindings/compare/ANSWERS.md describes the list.
+// Kinds, modes and refusals are numbers here: the list is of calls of the C interface, which has them so.
 #![tactic(auto)]
 
 mod answers;

@@ -1,4 +1,5 @@
-// Codes to kinds and modes: every code that stands for none is refused.
+// Codes to kinds and modes: every code that stands for none is refused. Three impls of one form: each is its table of codes, as document 01
+// has it.
 ghost use Rattle.std.specs.Prelude.{◌≡◌};
 ghost use Rattle.rules.specs.Kinds.{faces_of, code_of};
 ghost use Rattle.rules.specs.Answers.{kind_decodes, packing_decodes, wrap_decodes};
@@ -11,7 +12,7 @@ impl TryFrom<u32> for Kind {
 
     ghost try_from_gives = { kind_decodes };
 
-    #[tactic(auto, unfolding(crate::specs::Refusals::kind_refusal, crate::specs::Kinds::kind_of, crate::specs::Answers::answer))]
+    #[tactic(auto, unfolding(crate::specs::Refusals::kind_refusal, crate::specs::Refusals::refusal_of, crate::specs::Kinds::kind_of, crate::specs::Answers::answer))]
     fn try_from(code: u32) -> Result<Self, Refusal> {
         match code {
             0 => Ok(Kind::Srgb),
@@ -50,7 +51,7 @@ impl TryFrom<u32> for Packing {
 
     ghost try_from_gives = { packing_decodes };
 
-    #[tactic(auto, unfolding(crate::specs::Refusals::mode_refusal, crate::specs::Packing::packing_code, crate::specs::Answers::answer))]
+    #[tactic(auto, unfolding(crate::specs::Refusals::mode_refusal, crate::specs::Refusals::refusal_of, crate::specs::Packing::packing_code, crate::specs::Answers::answer))]
     fn try_from(code: u32) -> Result<Self, Refusal> {
         match code {
             0 => Ok(Packing::Truncating),
@@ -66,7 +67,7 @@ impl TryFrom<u32> for Mode {
 
     ghost try_from_gives = { wrap_decodes };
 
-    #[tactic(auto, unfolding(crate::specs::Refusals::wrap_refusal, crate::specs::Wrapping::wrap_code, crate::specs::Answers::answer))]
+    #[tactic(auto, unfolding(crate::specs::Refusals::wrap_refusal, crate::specs::Refusals::refusal_of, crate::specs::Wrapping::wrap_code, crate::specs::Answers::answer))]
     fn try_from(code: u32) -> Result<Self, Refusal> {
         match code {
             10497 => Ok(Mode::Repeat),

@@ -32,6 +32,7 @@ pub fn alpha(texel: u32) -> u8
 }
 
 // The texel of four bytes.
+#[tactic(auto, unfolding(rules::specs::Kinds::rgba))]
 pub fn rgba(r: u8, g: u8, b: u8, a: u8) -> u32
     ensures { result ≡ rgba r g b a }
 {

@@ -301,6 +301,7 @@ fn bucket_of(mean: f32) -> usize
 }
 
 // The greatest byte k with T(k) at most the mean: the index leaves two, and one compare settles it.
+// What it asks of the tables is what the type `Srgb` of kinds says of those that it lends here.
 pub fn encode(t: &[f32; 256], index: &[u8; 1506], mean: f32) -> u8
     requires { (t.now ≡ curve_table) × Index index.now × Between zero32 mean one32 }
     ensures { result ≡ encode_of mean }

@@ -1,7 +1,7 @@
 // The texture unit: every public call, with the records and refusals of the calls; and for our own crates `Picture`, `check_room` and
 // `face_of`. No public call has a `requires`; what each answers and what it leaves in the buffers that it was lent is said in
 // crates/rules/specs/Answers.antt.
-// The calls take codes and no `Kind`, `Packing` or `Mode`: each code has its answer, and an unknown one is refused in its turn.
+// The calls take codes and no `Kind`, `Packing` or `Mode`: document 01 has them take every code, and refuse an unknown one in its turn.
 #![tactic(auto)]
 
 pub use levels::chain::generate_mipmaps;

@@ -17,15 +17,15 @@ use Rattle.rules.proofs.Refusing.{or_else-none, unless-none, and_both, chain-fac
 use Rattle.txr.specs.File.{word_at, marked, kind_in, width_in, height_in, size_in, header_refusal, longest, levels_refusal, length_refusal, file_refusal}
 
 -- level 0 is a part of the chain
-pub size-le-count : (faces w h : ℕ) → 0 < w → 0 < h → faces * h * w ≤ count faces w h
+pub size_le_count : (faces w h : ℕ) → 0 < w → 0 < h → faces * h * w ≤ count faces w h
 unfolding count
-size-le-count faces w h pw ph = omega (arith, start-half faces w h (top w h) pw ph)
+size_le_count faces w h pw ph = omega (arith, start-half faces w h (top w h) pw ph)
 
 -- a chain of at most 16,384 texels has a level 0 of no more
 pub size-most : (b : List ℕ) → levels_refusal b ≡ 0 → size_in b ≤ longest
 size-most b e =
     let c = chain-facts (kind_in b) (width_in b) (height_in b) longest e in
-    omega (arith, size-le-count (faces_of (kind_in b)) (width_in b) (height_in b) c.taken.some-w c.taken.some-h, c.room)
+    omega (arith, size_le_count (faces_of (kind_in b)) (width_in b) (height_in b) c.taken.some-w c.taken.some-h, c.room)
 
 pub header-ten : (b : List ℕ) → header_refusal b ≡ 0 → 10 ≤ length b
 unfolding header_refusal
@@ -61,10 +61,10 @@ and_last true false c d = refl
 and_last false b c d = refl
 
 -- the mark as it stands in front, tested before the version
-pub marked-starts : (b : List ℕ) → 5 ≤ length b → marked b ≡ (starts_with eqb b (0x54 ∷ 0x58 ∷ 0x52 ∷ []) && eqb (word_at b 3) 1)
+pub marked_starts : (b : List ℕ) → 5 ≤ length b → marked b ≡ (starts_with eqb b (0x54 ∷ 0x58 ∷ 0x52 ∷ []) && eqb (word_at b 3) 1)
 unfolding marked
-marked-starts [] le = absurd (omega arith)
-marked-starts (x ∷ []) le = absurd (omega arith)
-marked-starts (x ∷ (y ∷ [])) le = absurd (omega arith)
-marked-starts (x ∷ (y ∷ (z ∷ rest))) le = rw (nat_eq_equiv.symm x 0x54, nat_eq_equiv.symm y 0x58, nat_eq_equiv.symm z 0x52)
+marked_starts [] le = absurd (omega arith)
+marked_starts (x ∷ []) le = absurd (omega arith)
+marked_starts (x ∷ (y ∷ [])) le = absurd (omega arith)
+marked_starts (x ∷ (y ∷ (z ∷ rest))) le = rw (nat_eq_equiv.symm x 0x54, nat_eq_equiv.symm y 0x58, nat_eq_equiv.symm z 0x52)
     (and_last (eqb 0x54 x) (eqb 0x58 y) (eqb 0x52 z) _)

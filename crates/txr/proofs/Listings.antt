@@ -33,17 +33,21 @@ use Rattle.txr.specs.File.{kind_in, width_in, height_in, size_in, texel_in, leve
 use Rattle.txr.specs.Digits.{places_of}
 use Rattle.txr.specs.Listing.{line_of, level_line, level_lines, file_lines, refused_line, listing_of}
 use Rattle.txr.proofs.Files.{file-facts}
-use Rattle.txr.proofs.Spelling.{places-one, places-more, length-field, length-line}
+use Rattle.txr.proofs.Spelling.{places_one, places_more, length-field, length-line}
 
 -- ---- k + 1 decimal digits
 
 pub places-most : (k n : ℕ) → n < 10 ^ suc k → places_of n ≤ suc k
-places-most zero n lt = omega (arith, places-one n (omega arith))
+places-most zero n lt = omega (arith, places_one n (omega arith))
 places-most (suc k) n lt =
     elim (dec_le 10 n) [
-      | yes le ↦ omega (arith, places-more n le, places-most k (n / 10) (omega (arith, pow-suc 10 (suc k))))
-      | no less ↦ omega (arith, places-one n (omega arith))
+      | yes le ↦ omega (arith, places_more n le, places-most k (n / 10) (omega (arith, pow-suc 10 (suc k))))
+      | no less ↦ omega (arith, places_one n (omega arith))
     ]
+
+-- a 32-bit number has no more than ten
+pub places_ten : (n : ℕ) → n < 4294967296 → places_of n ≤ 10
+places_ten n lt = places-most 9 n (omega arith)
 
 line-most : (m w h t : ℕ) → m < 10000 → w < 10000 → h < 10000 → length (line_of m w h t) ≤ 24
 line-most m w h t pm pw ph =
@@ -67,6 +71,9 @@ module _ (kind w h : ℕ) (some-w : 1 ≤ w) (most-w : w ≤ 4096) (some-h : 1 �
   lines-short chain zero le = omega arith
   lines-short chain (suc n) le =
       omega (arith, length-append (level_lines kind w h chain n) (level_line kind w h chain n), lines-short chain n (omega arith), level-most n (omega arith) chain)
+
+-- of a level: where it starts, its line, and that no more than 12 are above level 0
+pub ruleset levels_within = (top-most, level-inside, level-most)
 
 -- ---- a file that is not refused
 
@@ -141,3 +148,6 @@ unfolding listing_of
 refused-listed b refusal e =
     let number : number_of refusal ≡ file_refusal b = ap number_in e ∙ known-answer (file_refusal b) (file_lines b) (known-file b) in
     rw number (sym (answer-refused (file_refusal b) refused_line (file_lines b) (λ none. number-some refusal (number ∙ none))))
+
+-- of what is written
+pub ruleset listed = (given-listed, refused-listed)

@@ -52,21 +52,21 @@ places-bound (suc k) (suc j) n p q =
     ]
 
 -- one digit, and one more than the quotient has
-pub places-one : (n : ℕ) → n < 10 → places_of n ≡ 1
+pub places_one : (n : ℕ) → n < 10 → places_of n ≡ 1
 unfolding places_of
-places-one n lt = places-small n lt n
+places_one n lt = places-small n lt n
 
-pub places-more : (n : ℕ) → 10 ≤ n → places_of n ≡ suc (places_of (n / 10))
+pub places_more : (n : ℕ) → 10 ≤ n → places_of n ≡ suc (places_of (n / 10))
 unfolding places_of
-places-more zero le = absurd (omega arith)
-places-more (suc n) le = places-step n (suc n) le ∙ ap suc (places-bound n (suc n / 10) (suc n / 10) (omega arith) (le_refl _))
+places_more zero le = absurd (omega arith)
+places_more (suc n) le = places-step n (suc n) le ∙ ap suc (places-bound n (suc n / 10) (suc n / 10) (omega arith) (le_refl _))
 
 pub places-pos : (n : ℕ) → 0 < places_of n
-places-pos n = elim (dec_le 10 n) [ yes le ↦ omega (arith, places-more n le) | no less ↦ omega (arith, places-one n (omega arith)) ]
+places-pos n = elim (dec_le 10 n) [ yes le ↦ omega (arith, places_more n le) | no less ↦ omega (arith, places_one n (omega arith)) ]
 
-pub length-decimal : (n : ℕ) → length (decimal_of n) ≡ places_of n
+pub length_decimal : (n : ℕ) → length (decimal_of n) ≡ places_of n
 unfolding decimal_of
-length-decimal n = length_digits 10 (places_of n) n
+length_decimal n = length_digits 10 (places_of n) n
 
 pub length-hex : (t : ℕ) → length (hex_of t) ≡ 8
 unfolding hex_of
@@ -76,7 +76,7 @@ length-hex t = length_digits 16 8 t
 
 pub length-field : (n : ℕ) → length (field_of n) ≡ places_of n + 1
 unfolding field_of
-length-field n = length-append (decimal_of n) _ ∙ omega (arith, length-decimal n)
+length-field n = length-append (decimal_of n) _ ∙ omega (arith, length_decimal n)
 
 pub length-line : (m w h t : ℕ) → length (line_of m w h t) ≡ length (field_of m) + length (field_of w) + length (field_of h) + 9
 unfolding line_of
@@ -84,4 +84,4 @@ length-line m w h t = simp length-append (omega (arith, length-hex t))
 
 pub length-refused : (n : ℕ) → length (refused_line n) ≡ places_of n + 9
 unfolding refused_line
-length-refused n = simp length-append (omega (arith, length-decimal n))
+length-refused n = simp length-append (omega (arith, length_decimal n))

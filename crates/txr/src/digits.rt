@@ -6,6 +6,7 @@ ghost use Rattle.txr.specs.Digits.{digit_of, digits_of, places_of, decimal_of, h
 use crate::page::Page;
 
 // A digit: 0 to 9, then capital A to F.
+#[tactic(auto, unfolding(crate::specs::Digits::digit_of))]
 fn digit(d: u32) -> u8
     requires { d < 16 }
     ensures { result ≡ digit_of d }
@@ -14,6 +15,7 @@ fn digit(d: u32) -> u8
 }
 
 // How many decimal digits n has.
+#[tactic(auto, using(crate::proofs::Spelling::places_one, crate::proofs::Spelling::places_more))]
 fn places(n: u32) -> usize
     ensures { result ≡ places_of n }
 {
@@ -40,6 +42,7 @@ impl Page {
     }
 
     // A number in decimal.
+    #[tactic(auto, using(crate::proofs::Spelling::length_digits), unfolding(crate::specs::Digits::decimal_of))]
     pub fn decimal(&mut self, n: u32)
         requires { length self.old + length (decimal_of n) ≤ 512 }
         ensures { self.new ≡ self.old ++ decimal_of n }
@@ -48,6 +51,7 @@ impl Page {
     }
 
     // A texel as eight hex digits.
+    #[tactic(auto, unfolding(crate::specs::Digits::hex_of))]
     pub fn hex(&mut self, texel: u32)
         requires { length self.old + 8 ≤ 512 }
         ensures { self.new ≡ self.old ++ hex_of texel }

@@ -13,6 +13,7 @@ use levels::picture::Picture;
 use rules::Refusal;
 
 // The 16-bit number at byte i, little-endian.
+#[tactic(auto, unfolding(crate::specs::File::word_at))]
 fn word_at(input: &[u8], i: usize) -> u32
     requires { i + 1 < length input.now }
     ensures { result ≡ word_at input.now i }
@@ -21,6 +22,7 @@ fn word_at(input: &[u8], i: usize) -> u32
 }
 
 // Mark TXR, 16-bit version 1.
+#[tactic(auto, using(crate::proofs::Files::marked_starts))]
 fn marked(input: &[u8]) -> bool
     requires { 5 ≤ length input.now }
     ensures { result ≡ marked input.now }
@@ -67,7 +69,7 @@ fn check_length(input: &[u8], size: usize) -> Result<(), Refusal>
 }
 
 // The picture of a file. 12; 1; 2; a chain above 16,384 texels, 3; 12.
-#[tactic(auto, using(rules::proofs::Answering::answer_or), unfolding(crate::specs::File::file_refusal, crate::specs::File::length_refusal))]
+#[tactic(auto, using(rules::proofs::Answering::answer_or, crate::proofs::Files::size_le_count), unfolding(crate::specs::File::file_refusal, crate::specs::File::length_refusal))]
 pub fn picture_in(input: &[u8]) -> Result<Picture, Refusal>
     ensures told { done result ≡ told (file_refusal input.now) }
     ensures ten { IfOk result (λ _. 10 ≤ length input.now) }

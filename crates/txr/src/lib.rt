@@ -15,7 +15,7 @@ pub use stream::{read_front, write_listing};
 // What the header of a file says of its picture.
 #[derive(Clone, Copy)]
 pub struct Header {
-    // A code, as the file has it.
+    // A code, and no `Kind`: a file's byte may be any, and `header_in` says which.
     pub kind: u32,
     pub width: u32,
     pub height: u32,

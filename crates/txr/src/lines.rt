@@ -6,6 +6,7 @@ use crate::page::Page;
 
 impl Page {
     // A number and a space.
+    #[tactic(auto, unfolding(crate::specs::Listing::field_of))]
     fn field(&mut self, n: u32)
         requires { length self.old + length (field_of n) ≤ 512 }
         ensures { self.new ≡ self.old ++ field_of n }
@@ -15,6 +16,7 @@ impl Page {
     }
 
     // A level's number, width, height and first texel.
+    #[tactic(auto, unfolding(crate::specs::Listing::line_of))]
     pub fn line(&mut self, level: u32, width: u32, height: u32, texel: u32)
         requires { length self.old + length (line_of level width height texel) ≤ 512 }
         ensures { self.new ≡ self.old ++ line_of level width height texel }
@@ -27,6 +29,7 @@ impl Page {
     }
 
     // A page that says `refused N`.
+    #[tactic(auto, using(crate::proofs::Listings::places_ten, crate::proofs::Spelling::length_decimal), unfolding(crate::specs::Listing::refused_line))]
     pub fn refused(n: u32) -> Page
         ensures { result ≡ refused_line n }
     {

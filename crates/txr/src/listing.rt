@@ -15,6 +15,7 @@ use levels::picture::Picture;
 use rules::Refusal;
 
 // The line of level m.
+#[tactic(auto, using(crate::proofs::Listings::levels_within), unfolding(crate::specs::Listing::level_line))]
 fn level_line(chain: Chain, m: u32, page: &mut Page)
     requires level { m ≤ top chain.picture.width chain.picture.height }
     requires page { length page.old + 24 ≤ 512 }
@@ -60,6 +61,7 @@ fn list_levels(input: &[u8]) -> Result<Page, Refusal>
 }
 
 // What the listing program writes for what it read.
+#[tactic(auto, using(crate::proofs::Listings::listed))]
 fn listing(input: &[u8]) -> Page
     ensures { result ≡ listing_of input.now }
 {

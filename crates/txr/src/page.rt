@@ -1,4 +1,5 @@
 // A page: bytes written one behind the other, as many as a listing has at most.
+// An array and a length: a listing is written in fixed memory, with no heap. Each step that writes asks for the room that it takes.
 ghost use Rattle.std.specs.Prelude.{◌≡◌, ℕ, ◌+◌, ◌≤◌, List, [], ◌++◌, length, take};
 
 use std::marker::Model;
