@@ -25,14 +25,14 @@ impl Chain<'_> {
             picture,
             number: level - 1,
         };
-        let from = before.start();
-        let start = before.end();
-        let place = start + check_next(picture.kind, packing, before.shape(), &self.texels[from..]);
-        let end = PictureLevel {
+        let at = PictureLevel {
             picture,
             number: level,
-        }
-        .end();
+        };
+        let from = before.start();
+        let start = at.start();
+        let end = at.end();
+        let place = start + check_next(picture.kind, packing, before.shape(), &self.texels[from..]);
         if place < end { Some(place) } else { None }
     }
 

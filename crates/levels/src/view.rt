@@ -5,7 +5,6 @@ ghost use Rattle.rules.specs.Answers.{done, told, view_answer};
 ghost use Rattle.levels.specs.Pictures.{IsFace};
 
 use crate::layout::Layout;
-use crate::level::PictureLevel;
 use rules::Refusal;
 
 // Where one face of a level stands.
@@ -32,12 +31,9 @@ pub fn face_of(
     let picture = layout.picture;
     picture.check_face(face)?;
     picture.check_level(level)?;
-    let at = PictureLevel {
-        picture,
-        number: level,
-    };
-    let size = (at.height() as usize) * (at.width() as usize);
-    let start = layout.plane(level).start + (face as usize) * size;
+    let plane = layout.plane(level);
+    let size = plane.height * plane.width;
+    let start = plane.start + (face as usize) * size;
     Ok(Face { start, size })
 }
 

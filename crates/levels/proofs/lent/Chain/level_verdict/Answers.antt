@@ -6,12 +6,12 @@ use borrow.Author.Rules.{part_to_end}
 use lib.ListN.{length, length-drop}
 use Rattle.std.specs.Prelude.{None, Some}
 use Rattle.rules.specs.Kinds.{faces_of, code_of}
-use Rattle.rules.specs.Sizes.{side_at, half, start}
+use Rattle.rules.specs.Sizes.{side_at, half}
 use Rattle.rules.specs.Reducing.{reduce_of}
 use Rattle.rules.specs.Checks.{level_verdict, level_verdict_of}
 use Rattle.levels.proofs.Checks.{Behind, behind, judged}
 use Rattle.levels.proofs.lent.Chain.level_verdict.Goals as goal
-use Rattle.levels.proofs.lent.Chain.level_verdict.Goals.{After-check_next, After-end-start, After-end-end, Else-level-lt1}
+use Rattle.levels.proofs.lent.Chain.level_verdict.Goals.{After-check_next, After-start-from, Else-level-lt1}
 
 pub returns-then-level-lt1 : goal.returns-then-level-lt1
 unfolding level_verdict_of level_verdict
@@ -23,26 +23,20 @@ returns-then-level-lt1 c =
 known : (c : goal.Else-level-lt1) → let p = c.args.self.picture in Behind (faces_of (code_of p.kind)) p.width p.height c.args.level (length c.args.self.texels.now)
 known c = let chain = c.args.self in behind _ _ _ _ _ chain.picture.sides chain.room c.requires (omega arith)
 
--- where the level starts
-begins : (c : goal.After-end-start) → let p = c.args.self.picture in c.end-start.result ≡ start (faces_of (code_of p.kind)) p.width p.height c.args.level
-begins c =
-    let e : c.args.level - 1 + 1 ≡ c.args.level = omega arith in
-    rw e at c.end-start.ensures
-
 -- the part from the level before on lies in the buffer
-fits : (c : goal.After-end-start) → c.start-from.result ≤ length c.args.self.texels.now
+fits : (c : goal.After-start-from) → c.start-from.result ≤ length c.args.self.texels.now
 fits c =
-    let k = known (goal.at.After-end-start c).Else-level-lt1 in
+    let k = known (goal.at.After-start-from c).Else-level-lt1 in
     rw c.start-from.ensures (omega (arith, k.starts, k.ends, k.inside))
 
 pub offset_bounds-self-from : goal.offset_bounds-self-from
-offset_bounds-self-from c = omega (arith, fits (goal.at.offset_bounds-self-from c).After-end-start)
+offset_bounds-self-from c = omega (arith, fits (goal.at.offset_bounds-self-from c).After-start-from)
 
 pub slice_bounds-check_next-count : goal.slice_bounds-check_next-count
-slice_bounds-check_next-count c = fits (goal.at.slice_bounds-check_next-count c).After-end-start
+slice_bounds-check_next-count c = fits (goal.at.slice_bounds-check_next-count c).After-start-from
 
 pub slice_bounds-check_next-start : goal.slice_bounds-check_next-start
-slice_bounds-check_next-start c = omega (arith, fits (goal.at.slice_bounds-check_next-start c).After-end-start)
+slice_bounds-check_next-start c = omega (arith, fits (goal.at.slice_bounds-check_next-start c).After-start-from)
 
 pub check_next-requires : goal.check_next-requires
 check_next-requires c =
@@ -55,7 +49,7 @@ check_next-requires c =
     }
 
 -- where it stops lies in the buffer, or at its end
-ends : (c : goal.After-check_next) → c.end-start.result + c.check_next.result ≤ length c.args.self.texels.now
+ends : (c : goal.After-check_next) → c.start-start.result + c.check_next.result ≤ length c.args.self.texels.now
 ends c =
     let p = c.args.self.picture in
     let m = c.args.level - 1 in
@@ -63,16 +57,16 @@ ends c =
     let s = c.shape.ensures in
     let most : c.check_next.result ≤ faces_of (code_of p.kind) * half (side_at m p.height) * half (side_at m p.width)
     = rw (s.0, s.1, s.2) at c.check_next.ensures.most in
-    rw (begins (goal.at.After-check_next c).After-end-start) (omega (arith, most, k.ends, k.inside))
+    rw c.start-start.ensures (omega (arith, most, k.ends, k.inside))
 
 pub overflow_add-place : goal.overflow_add-place
-overflow_add-place c = omega (arith, ends (goal.at.overflow_add-place c).After-check_next)
+overflow_add-place c = omega (arith, ends c)
 
 -- what was found there, as the definition says it
-found : (c : goal.After-end-end)
+found : (c : goal.After-check_next)
     → let a = c.args in
     let p = a.self.picture in
-    let place = c.end-start.result + c.check_next.result in
+    let place = c.start-start.result + c.check_next.result in
     let verdict = level_verdict_of (code_of p.kind) a.packing p.width p.height a.self.texels.now a.level in
     (place < c.end-end.result → Some place ≡ verdict) × (c.end-end.result ≤ place → None ≡ verdict)
 unfolding level_verdict_of
@@ -82,12 +76,12 @@ found c =
     let K = code_of p.kind in
     let before = c.start-from in
     let s = c.shape.ensures in
-    rw (begins (goal.at.After-end-end c).After-end-start, c.end-end.ensures)
-    (judged (reduce_of K a.packing) (faces_of K) p.width p.height a.level a.self.texels.now c.check_next.result (omega arith) (known (goal.at.After-end-end c).Else-level-lt1)
+    rw (c.start-start.ensures, c.end-end.ensures)
+    (judged (reduce_of K a.packing) (faces_of K) p.width p.height a.level a.self.texels.now c.check_next.result (omega arith) (known (goal.at.After-check_next c).Else-level-lt1)
     (rw (part_to_end a.self.texels.now before.result, before.ensures, s.0, s.1, s.2) at c.check_next.ensures))
 
 pub returns-then-place-end : goal.returns-then-place-end
-returns-then-place-end c = (found (goal.at.returns-then-place-end c).After-end-end).0 c.if-place-end.true
+returns-then-place-end c = (found (goal.at.returns-then-place-end c).After-check_next).0 c.if-place-end.true
 
 pub returns-else-place-end : goal.returns-else-place-end
-returns-else-place-end c = (found (goal.at.returns-else-place-end c).After-end-end).1 c.if-place-end.false
+returns-else-place-end c = (found (goal.at.returns-else-place-end c).After-check_next).1 c.if-place-end.false
