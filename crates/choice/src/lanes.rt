@@ -29,10 +29,9 @@ pub fn pairs<T, U>(x: Four<T>, y: Four<U>) -> Four<(T, U)>
     }
 }
 
-// Whether a test holds in all four lanes, by their count: the compiler keeps four lanes side by side for a sum, and shuffles them for tests
-// that are joined.
+// Whether a test holds in all four lanes.
 pub fn all(tests: Four<bool>) -> bool
     ensures { result ≡ (tests.a && (tests.b && (tests.c && tests.d))) }
 {
-    tests.a as u32 + tests.b as u32 + tests.c as u32 + tests.d as u32 == 4
+    tests.a & (tests.b & (tests.c & tests.d))
 }

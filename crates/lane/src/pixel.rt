@@ -10,7 +10,7 @@ use texel::packing::unpack;
 
 // A texel's colour.
 #[tactic(auto, unfolding(rules::specs::Places::rgb_of))]
-pub fn rgb(texel: u32) -> Rgb
+fn rgb(texel: u32) -> Rgb
     ensures { result ≡ rgb_of texel }
 {
     Rgb {
