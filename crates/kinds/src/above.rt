@@ -1,5 +1,5 @@
 // The two rows that a row of the next level is made from, one as long as the other, and what stands under them.
-ghost use Rattle.std.specs.Prelude.{◌≡◌, ◌+◌, ◌*◌, ◌≤◌, length, drop};
+ghost use Rattle.std.specs.Prelude.{◌≡◌, ◌+◌, ◌*◌, ◌≤◌, length, min, take, drop};
 ghost use Rattle.kinds.specs.Quads.{Pairs};
 
 use crate::channel::Quad;
@@ -20,6 +20,17 @@ pub struct Standing<'a> {
 }
 
 impl<'a> Rows<'a> {
+    // Two rows, as far as both go.
+    pub fn new(first: &'a [u32], second: &'a [u32]) -> Rows<'a>
+        ensures { let n = min (length first.now) (length second.now) in (result.first.now ≡ take n first.now) × (result.second.now ≡ take n second.now) }
+    {
+        let n = first.len().min(second.len());
+        Rows {
+            first: &first[..n],
+            second: &second[..n],
+        }
+    }
+
     // The four texels of place x: a pair of each row.
     pub fn pair(self, x: usize) -> Quad<u32>
         requires { 2 * x + 2 ≤ length self.first.now }

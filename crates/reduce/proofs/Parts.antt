@@ -1,4 +1,5 @@
--- A list that is cut into parts of 64: the part behind n parts, which is shorter only at the end, and what is left behind it. Assumes nothing.
+-- A list that is cut into parts of 64: the part behind n parts, which is shorter only at the end, and what is left behind it. Assumes
+-- nothing.
 use mathlib.Core.Path.{◌≡◌, refl, sym, ap, subst, ◌∙◌}
 use mathlib.Core.List.{List, ◌++◌}
 use Prim.Native.Nat.{ℕ, ◌+◌, ◌-◌, ◌*◌, ◌≤◌, ◌<◌, min}

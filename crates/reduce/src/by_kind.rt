@@ -1,5 +1,5 @@
-// A kind's rule: `fill` and `check_next` choose the type, once a call, by an enum. Cubemap and Linear are the plain mean, in nearest mode by
-// whole numbers. Both have the same arms: a visitor with a method for each rule would be longer than they are.
+// A kind's rule: `fill` and `check_next` choose the type, once a call, by an enum. Cubemap and Linear are the plain mean, in nearest mode
+// by whole numbers. Both have the same arms: a visitor with a method for each rule would be longer than they are.
 ghost use Rattle.std.specs.Prelude.{◌≡◌, ◌+◌, ◌*◌, ◌≤◌, length};
 ghost use Rattle.rules.specs.Sizes.{half, start};
 ghost use Rattle.rules.specs.Levels.{filled};
@@ -45,11 +45,11 @@ pub fn fill(kind: Kind, packing: Packing, shape: Shape, left: usize, s: &mut [u3
     }
 }
 
-// The same of a check. One function that takes a closure was tried: nothing is inferred of what the two closures do, so each would say these
-// same clauses.
+// The same of a check. One function that takes a closure was tried: nothing is inferred of what the two closures do, so each would say
+// these same clauses.
 #[inline(never)]
 fn check_srgb(packing: Packing, pair: Followed) -> usize
-    ensures { NextRight (srgb_of packing) pair.entry.shape.faces pair.entry.shape.width pair.entry.shape.height pair.entry.texels.now result }
+    ensures { NextRight (srgb_of packing) pair.entry.shape pair.entry.texels.now result }
 {
     check_level::check_next(&Srgb::new(packing), pair)
 }
@@ -58,7 +58,7 @@ fn check_srgb(packing: Packing, pair: Followed) -> usize
 #[tactic(auto, unfolding(rules::specs::Reducing::reduce_of))]
 pub fn check_next(kind: Kind, packing: Packing, shape: Shape, s: &[u32]) -> usize
     requires room { shape.faces * shape.height * shape.width + shape.faces * half shape.height * half shape.width ≤ length s.now }
-    ensures { NextRight (reduce_of (code_of kind) packing) shape.faces shape.width shape.height s.now result }
+    ensures { NextRight (reduce_of (code_of kind) packing) shape s.now result }
 {
     let pair = Followed { shape, texels: s };
     match (kind, packing) {

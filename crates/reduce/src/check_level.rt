@@ -35,7 +35,7 @@ fn check_level<R: Reduce>(rule: &R, shape: Shape, level: &[u32], c: &[u32]) -> u
 
 // How many texels of the next level are right before the first that is not.
 pub fn check_next<R: Reduce>(rule: &R, pair: Followed) -> usize
-    ensures { NextRight (R.rule rule.now) pair.entry.shape.faces pair.entry.shape.width pair.entry.shape.height pair.entry.texels.now result }
+    ensures { NextRight (R.rule rule.now) pair.entry.shape pair.entry.texels.now result }
 {
     let n = pair.shape.size();
     let m = pair.shape.next().size();

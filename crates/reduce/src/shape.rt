@@ -35,10 +35,10 @@ impl Above {
         ensures rows { (result.first.now ≡ take w (drop self.first level.now)) × (result.second.now ≡ take w (drop self.second level.now)) }
         ensures width { length result.first.now ≡ w }
     {
-        Rows {
-            first: &level[self.first..self.first + w],
-            second: &level[self.second..self.second + w],
-        }
+        Rows::new(
+            &level[self.first..self.first + w],
+            &level[self.second..self.second + w],
+        )
     }
 }
 
