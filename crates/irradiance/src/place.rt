@@ -1,9 +1,9 @@
 // The place of a texel on a face, and the basis there.
 ghost use Rattle.std.specs.Prelude.{◌≡◌, ◌≤◌, ◌<◌};
 ghost use Rattle.rules.specs.Floats.{Between, minus1, one32};
-ghost use Rattle.rules.specs.Irradiance.{three32, centre_of, distance_of, towards, place_basis};
+ghost use Rattle.rules.specs.Irradiance.{centre_of, distance_of, towards, place_basis};
 
-use crate::root::settled;
+use crate::root::{SquaredDistance, settled};
 use rules::{Basis, Vector};
 
 // Where a texel's centre lies along a side of its face.
@@ -26,11 +26,12 @@ pub fn centre(side: u32, x: u32) -> Coordinate
 
 // 1 + u*u + v*v, left to right.
 #[tactic(auto, unfolding(rules::specs::Irradiance::distance_of))]
-pub fn distance(u: Coordinate, v: Coordinate) -> f32
-    ensures is { result ≡ distance_of u.at v.at }
-    ensures in_three { Between one32 result three32 }
+pub fn distance(u: Coordinate, v: Coordinate) -> SquaredDistance
+    ensures { result.d ≡ distance_of u.at v.at }
 {
-    1.0 + u.at * u.at + v.at * v.at
+    SquaredDistance {
+        d: 1.0 + u.at * u.at + v.at * v.at,
+    }
 }
 
 // The direction of a place, before it is divided.
@@ -72,9 +73,9 @@ fn towards(face: u32, u: f32, v: f32) -> Vector<f32>
 pub fn place_basis(omega: f32, face: u32, u: Coordinate, v: Coordinate, guess: f64) -> Basis<f32>
     ensures { result ≡ place_basis omega face u.at v.at }
 {
-    let d = distance(u, v);
-    let r = settled(d, guess);
-    let weight = omega / (d * r);
+    let distance = distance(u, v);
+    let r = settled(distance, guess);
+    let weight = omega / (distance.d * r);
     let n = towards(face, u.at, v.at);
     Basis {
         constant: 0.282095 * weight,

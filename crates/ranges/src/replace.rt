@@ -8,6 +8,7 @@ use crate::refusals::check_replace;
 use rules::Refusal;
 
 // Puts a texel at (x, y) of level 0 and brings its tile's range up to date. The other levels are not made again.
+// The level is put together here once more: the one that the tests look at is lent, and its texel changes.
 #[tactic(auto, using(rules::proofs::Answering::leaves_as), unfolding(rules::specs::Answers::replace_leaves, rules::specs::Answers::replace_ranges_leaves))]
 pub fn replace_texel(
     kind: u32,

@@ -64,6 +64,7 @@ impl Level0<'_> {
     }
 
     // Works out the range of the tile in column i and row j and stores it in its place.
+    // The room stands in two contracts: a value that held the lent ranges would have to say in each besides that its level stays.
     pub fn write_tile(self, i: u32, j: u32, ranges: &mut [u8])
         requires room { ranges_size self.picture.width self.picture.height ≤ length ranges.old }
         requires tile_at { TileAt self.picture.width self.picture.height i j }

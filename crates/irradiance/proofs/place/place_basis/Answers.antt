@@ -5,4 +5,4 @@ use Rattle.irradiance.proofs.place.place_basis.Goals as goal
 pub returns : goal.returns
 unfolding weight_of divided_by basis_of place_basis
 returns c =
-    rw (c.towards-n.ensures, c.settled-r.ensures, c.distance-d.ensures.is)
+    rw (c.towards-n.ensures, c.settled-r.ensures, c.distance-distance.ensures)

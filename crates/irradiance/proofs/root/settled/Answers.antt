@@ -8,11 +8,11 @@ use Rattle.irradiance.proofs.Roots.{Pattern, pattern-in, from_zero, number_in, r
 use Rattle.irradiance.proofs.root.settled.Goals as goal
 use Rattle.irradiance.proofs.root.settled.Goals.{Start}
 
-held : (c : goal.Start) → T (fits binary32 c.args.d)
-held c = subst T (sym c.well_formed.0.1) tt
+held : (c : goal.Start) → T (fits binary32 c.args.distance.d)
+held c = subst T (sym c.well_formed.0.1.1.0.1) tt
 
-pattern : (c : goal.Start) → Pattern (to_bits binary32 c.args.d)
-pattern c = pattern-in c.args.d (held c) c.requires
+pattern : (c : goal.Start) → Pattern (to_bits binary32 c.args.distance.d)
+pattern c = pattern-in c.args.distance.d (held c) c.args.distance.in_three
 
 pub overflow_cast-b : goal.overflow_cast-b
 overflow_cast-b c = let p = pattern (goal.at.overflow_cast-b c).Start in omega arith
@@ -28,7 +28,7 @@ float_from_bits-result c = below_no_nan _ (omega arith)
 
 pub returns-then-is_nearest : goal.returns-then-is_nearest
 returns-then-is_nearest c =
-    root-settled c.args.d _ (held (goal.at.returns-then-is_nearest c).Start) c.requires (c.is_nearest.ensures c.if-is_nearest.true)
+    root-settled c.args.distance.d _ (held (goal.at.returns-then-is_nearest c).Start) c.args.distance.in_three (c.is_nearest.ensures c.if-is_nearest.true)
 
 pub sqrt-requires : goal.sqrt-requires
-sqrt-requires c = from_zero _ c.requires
+sqrt-requires c = from_zero _ c.args.distance.in_three

@@ -1,6 +1,6 @@
 use mathlib.Core.Path.{◌≡◌, ap, ◌∙◌}
 use mathlib.Core.Logic.{inl, inr}
-use Prim.Native.Nat.{◌+◌, ◌-◌}
+use Prim.Native.Nat.{ℕ, ◌+◌, ◌-◌}
 use native.Mathlib.Omega.{arith}
 use lib.ListN.{length}
 use Rattle.std.proofs.Common.{rules}
@@ -16,14 +16,18 @@ pub loop-texel-init : goal.loop-texel-init
 loop-texel-init c =
     let it = c.into_iter-texel-iterator.result in
     let few = c.requires.2 in
+    let place = λ (i : ℕ). centre_of c.args.self.now.width (c.args.from + i) in
     let all : iter_rest (zip_first (zip_first it)) ≡ c.args.texels.now = search rules in
     let us : iter_rest (zip_second (zip_first it)) ≡ c.centres.new.us = search rules in
     let near : iter_rest (zip_second it) ≡ c.guesses.new.near = search rules in
     let none : length c.args.texels.now - length (iter_rest (zip_first (zip_first it))) ≡ 0 = rw all (omega arith) in
     record {
       left = rw all (left_first (omega arith));
-      places = rw us (placed_first (λ i. centre_of c.args.self.now.width (c.args.from + i)) _ _ none c.centres.ensures);
-      as_many = (rw (us, all) (c.centres.auto.us ∙ length-take-le _ _ (omega arith)), rw (near, all) (c.guesses.auto.near ∙ length-take-le _ _ (omega arith)));
+      places = rw us (placed_first place _ _ none c.centres.ensures);
+      as_many = (
+        rw (us, all) (c.centres.auto.us ∙ length-take-le _ _ (omega arith)),
+        rw (near, all) (c.guesses.auto.near ∙ length-take-le _ _ (omega arith)),
+      );
       sums = rw none (from_first _ _ _);
     }
 
@@ -31,24 +35,32 @@ pub loop-texel-preserved : goal.loop-texel-preserved
 loop-texel-preserved c =
     let i = c.loop-texel.invariant in
     let s = c.in-Some.ensures.steps in
+    let place = λ (i : ℕ). centre_of c.args.self.now.width (c.args.from + i) in
+    let rest = iter_rest (zip_first (zip_first c.loop-texel.texel-iterator)) in
+    let rest' = iter_rest (zip_first (zip_first c.next.new.self)) in
+    let k = length c.args.texels.now - length rest in
     let t = ap length s.0.0 in
     let u = ap length s.0.1 in
     let n = ap length s.1 in
-    let more : length c.args.texels.now - length (iter_rest (zip_first (zip_first c.next.new.self))) ≡ length c.args.texels.now - length (iter_rest (zip_first (zip_first c.loop-texel.texel-iterator))) + 1 = omega (arith, i.left.long) in
+    let more : length c.args.texels.now - length rest' ≡ k + 1 = omega (arith, i.left.long) in
     record {
       left = rw more (left-next i.left s.0.0);
-      places = rw more (placed-next (λ i. centre_of c.args.self.now.width (c.args.from + i)) _ i.places s.0.1);
+      places = rw more (placed-next place _ i.places s.0.1);
       as_many = (omega arith, omega arith);
-      sums = rw more (from_next _ _ _ _ _ _ (turn _ _ _ _ _ _ _ _ _ _ _ _ _ _ c.texel_omega-omega.ensures (placed-head (λ i. centre_of c.args.self.now.width (c.args.from + i)) _ i.places s.0.1) c.centre-v.ensures (left-head 0 i.left s.0.0) c.decoded.ensures c.place_basis-k.ensures c.all_get-sums.ensures) i.sums);
+      sums = rw more (from_next _ _ _ _ _ _
+          (turn _ _ _ _ _ _ _ _ _ _ _ _ _ _ c.texel_omega-omega.ensures (placed-head place _ i.places s.0.1) c.centre-v.ensures (left-head 0 i.left s.0.0)
+          c.decoded.ensures c.place_basis-k.ensures c.all_get-sums.ensures)
+          i.sums);
     }
 
 pub returns : goal.returns
 returns c =
     let i = c.loop-texel.invariant in
-    let empty : length (iter_rest (zip_first (zip_first c.loop-texel.texel-iterator))) ≡ 0 =
+    let rest = iter_rest (zip_first (zip_first c.loop-texel.texel-iterator)) in
+    let empty : length rest ≡ 0 =
     elim c.in-None.ensures.steps [
       | inl a ↦ elim a.1 [ inl b ↦ b.1.0 | inr b ↦ omega (arith, b.1.0, i.as_many.0) ]
       | inr a ↦ omega (arith, a.1.0, i.as_many.1)
     ] in
-    let all : length c.args.texels.now - length (iter_rest (zip_first (zip_first c.loop-texel.texel-iterator))) ≡ length c.args.texels.now = omega arith in
+    let all : length c.args.texels.now - length rest ≡ length c.args.texels.now = omega arith in
     rw all at i.sums

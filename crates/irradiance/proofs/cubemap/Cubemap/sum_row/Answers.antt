@@ -17,10 +17,11 @@ back start n = omega arith
 pub loop-i-init : goal.loop-i-init
 loop-i-init c =
     let a = c.args in
-    let made : chunks_rest (enumerate_source c.into_iter-i-iterator.result) ≡ chunks_rest c.chunks.result = search rules in
-    let whole : chunks_rest (enumerate_source c.into_iter-i-iterator.result) ≡ row_of a.self.now a.face a.y = rw (made, c.chunks.ensures.rest, back) in
+    let rest = chunks_rest (enumerate_source c.into_iter-i-iterator.result) in
+    let made : rest ≡ chunks_rest c.chunks.result = search rules in
+    let whole : rest ≡ row_of a.self.now a.face a.y = rw (made, c.chunks.ensures.rest, back) in
     let long = row-long a.self.now a.face a.y c.requires.0 c.requires.1 in
-    let none : a.self.now.width - length (chunks_rest (enumerate_source c.into_iter-i-iterator.result)) ≡ 0 = rw (whole, long) (omega arith) in
+    let none : a.self.now.width - length rest ≡ 0 = rw (whole, long) (omega arith) in
     record {
       size = search rules;
       left = rw whole (left_first (rw long (omega arith)));
@@ -30,20 +31,24 @@ loop-i-init c =
 
 pub loop-i-preserved : goal.loop-i-preserved
 loop-i-preserved c =
+    let a = c.args in
     let s = c.in-Some.ensures.steps in
     let i = c.loop-i.invariant in
-    let a = c.args in
     let chunk = c.in-Some.texels.now in
+    let rest = chunks_rest (enumerate_source c.loop-i.i-iterator) in
+    let rest' = chunks_rest (enumerate_source c.next.new.self) in
+    let k = a.self.now.width - length rest in
     let size = rw i.size at s.0.1.1 in
-    let some = s.0.1.2 in
     let long = row-long a.self.now a.face a.y c.requires.0 c.requires.1 in
-    let all : length (chunks_rest (enumerate_source c.loop-i.i-iterator)) ≡ length chunk + length (chunks_rest (enumerate_source c.next.new.self)) = ap length s.0.1.0 ∙ length-append _ _ in
-    let at : 64 * c.in-Some.i ≡ a.self.now.width - length (chunks_rest (enumerate_source c.loop-i.i-iterator)) = rw s.1 (i.column some) in
-    let more : a.self.now.width - length (chunks_rest (enumerate_source c.next.new.self)) ≡ a.self.now.width - length (chunks_rest (enumerate_source c.loop-i.i-iterator)) + length chunk = omega (arith, i.left.long) in
-    let inside : a.self.now.width - length (chunks_rest (enumerate_source c.loop-i.i-iterator)) + length chunk ≤ a.self.now.width = omega (arith, i.left.long) in
+    let all : length rest ≡ length chunk + length rest' = ap length s.0.1.0 ∙ length-append _ _ in
+    let column = i.column s.0.1.2 in
+    let at : 64 * c.in-Some.i ≡ k = rw s.1 column in
+    let more : a.self.now.width - length rest' ≡ k + length chunk = omega (arith, i.left.long) in
+    let inside : k + length chunk ≤ a.self.now.width = omega (arith, i.left.long) in
+    let part = rw at at c.sum_part-sums.ensures ∙ part-is a.self.now _ _ _ _ _ _ i.left s.0.1.0 inside _ in
     record {
       size = s.0.0 ∙ i.size;
       left = rw more (left-part a.self.now _ _ _ _ _ _ i.left s.0.1.0 inside);
-      column = λ left. rw s.2 (omega (arith, i.column some));
-      sums = turn_part _ _ _ _ _ _ _ (sym more) (rw at at (c.sum_part-sums.ensures) ∙ part-is a.self.now _ _ _ _ _ _ i.left s.0.1.0 inside _) i.sums;
+      column = λ left. rw s.2 (omega (arith, column));
+      sums = turn_part _ _ _ _ _ _ _ (sym more) part i.sums;
     }
