@@ -272,6 +272,7 @@ pub fn curve_table() -> [f32; 256]
 }
 
 // T(byte), from a table that is held.
+#[tactic(auto, using(crate::proofs::Table::table_at))]
 pub fn decode(t: &[f32; 256], byte: u8) -> f32
     requires { t.now ≡ curve_table }
     ensures { result ≡ curve byte }
