@@ -70,7 +70,8 @@ fn on_face(q: f32, major: f32) -> f32
     0.5 * (q / major + 1.0)
 }
 
-// Where a direction meets the cube, on it if it is taken: X if |x| >= |y| and |x| >= |z|; else Y if |y| > |x| and |y| >= |z|; else Z.
+// Where a direction meets the cube, one that is taken on its face.
+// X if |x| >= |y| and |x| >= |z|; else Y if |y| > |x| and |y| >= |z|; else Z.
 // (u, v) before scaling: (-z*sx, -y), (x, z*sy), (x*sz, -y).
 pub fn meet(x: f32, y: f32, z: f32) -> Spot
     ensures at { result ≡ spot_of x y z }
