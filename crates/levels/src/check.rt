@@ -8,6 +8,7 @@ ghost use Rattle.rules.specs.Answers.{check_chain_answer, check_level_answer};
 
 use crate::lent::{Chain, Lent, lent_chain};
 use crate::level::PictureLevel;
+use crate::picture::Picture;
 use reduce::by_kind::check_next;
 use rules::{Packing, Refusal};
 
@@ -45,7 +46,7 @@ impl Chain<'_> {
 }
 
 // Whether every level of a chain follows from the one before by the packing mode; else the first wrong texel's place.
-#[tactic(auto, using(rules::proofs::Answering::answer_or, rules::proofs::Answering::answer_as), unfolding(rules::specs::Answers::check_chain_answer))]
+#[tactic(auto, using(rules::proofs::Answering::answer_then, rules::proofs::Answering::or_else_assoc), unfolding(rules::specs::Refusals::chain_refusal, rules::specs::Refusals::mipmaps_refusal, rules::specs::Answers::check_chain_answer))]
 pub fn check_chain(
     kind: u32,
     width: u32,
@@ -55,12 +56,13 @@ pub fn check_chain(
 ) -> Result<Option<usize>, Refusal>
     ensures answer { result ≡ check_chain_answer kind width height mode texels.now }
 {
-    let Lent { chain, packing } = lent_chain(kind, width, height, mode, texels)?;
+    let picture = Picture::new(kind, width, height)?;
+    let Lent { chain, packing } = lent_chain(picture, mode, texels)?;
     Ok(chain.verdict(packing))
 }
 
 // The same of one level.
-#[tactic(auto, using(rules::proofs::Answering::answer_or, rules::proofs::Answering::answer_as), unfolding(rules::specs::Refusals::check_level_refusal, rules::specs::Answers::check_level_answer))]
+#[tactic(auto, using(rules::proofs::Answering::answer_then, rules::proofs::Answering::or_else_assoc), unfolding(rules::specs::Refusals::chain_refusal, rules::specs::Refusals::mipmaps_refusal, rules::specs::Refusals::check_level_refusal, rules::specs::Answers::check_level_answer))]
 pub fn check_level(
     kind: u32,
     width: u32,
@@ -71,7 +73,8 @@ pub fn check_level(
 ) -> Result<Option<usize>, Refusal>
     ensures answer { result ≡ check_level_answer kind width height mode texels.now level }
 {
-    let Lent { chain, packing } = lent_chain(kind, width, height, mode, texels)?;
-    chain.picture.check_level(level)?;
+    let picture = Picture::new(kind, width, height)?;
+    let Lent { chain, packing } = lent_chain(picture, mode, texels)?;
+    picture.check_level(level)?;
     Ok(chain.level_verdict(packing, level))
 }

@@ -1,7 +1,8 @@
 // The aligned cut of a picture that is no cubemap: a part of its level 0, as level 0 of a picture of its own.
 ghost use Rattle.std.specs.Prelude.{◌≡◌, ◌+◌, ◌*◌, ◌≤◌, length};
 ghost use Rattle.rules.specs.Cuts.{aligned};
-ghost use Rattle.rules.specs.Refusals.{cut_refusal, cut_call_refusal};
+ghost use Rattle.rules.specs.Kinds.{faces_of, code_of};
+ghost use Rattle.rules.specs.Refusals.{◌or_else◌, buffer_refusal, no_cubemap_refusal, cut_refusal};
 ghost use Rattle.rules.specs.Answers.{told, cut_answer, cut_leaves};
 ghost use Rattle.kinds.specs.Runs.{over};
 ghost use Rattle.levels.specs.Cuts.{along, cut_cell};
@@ -47,21 +48,18 @@ fn check_place(order: u32, picture: Picture, corner: Pair, sides: Pair) -> Resul
     }
 }
 
-// 1, 2, 3 (source), 8, 11, 3 (target): level 0 of each.
-#[tactic(auto, using(rules::proofs::Answering::answer_or), unfolding(rules::specs::Refusals::cut_call_refusal))]
+// 3 (source), 8, 11, 3 (target): level 0 of each.
+#[tactic(auto, using(rules::proofs::Answering::answer_or))]
 fn check_cut(
-    kind: u32,
-    width: u32,
-    height: u32,
+    picture: Picture,
     source: &[u32],
     order: u32,
     corner: Pair,
     sides: Pair,
     target: &[u32],
 ) -> Result<(), Refusal>
-    ensures { result ≡ told (cut_call_refusal kind width height (length source.now) order corner sides (length target.now)) }
+    ensures { result ≡ told (buffer_refusal (faces_of (code_of picture.kind) * picture.height * picture.width) (length source.now) or_else no_cubemap_refusal (code_of picture.kind) or_else cut_refusal order picture.width picture.height corner sides or_else buffer_refusal (sides.y * sides.x) (length target.now)) }
 {
-    let picture = Picture::new(kind, width, height)?;
     check_room(picture.level0(), source.len())?;
     picture.check_no_cubemap()?;
     check_place(order, picture, corner, sides)?;
@@ -88,7 +86,7 @@ fn write_cut(w: usize, corner: Pair, sides: Pair, source: &[u32], target: &mut [
 }
 
 // Cuts a part out of a picture's level 0, to stand as level 0 in the target, and answers the texels written.
-#[tactic(auto, using(rules::proofs::Answering::answer_as, rules::proofs::Answering::leaves_as), unfolding(rules::specs::Answers::cut_answer, rules::specs::Answers::cut_leaves))]
+#[tactic(auto, using(rules::proofs::Answering::answer_then, rules::proofs::Answering::leaves_then), unfolding(rules::specs::Refusals::cut_call_refusal, rules::specs::Answers::cut_answer, rules::specs::Answers::cut_leaves))]
 pub fn cut(
     kind: u32,
     width: u32,
@@ -102,7 +100,8 @@ pub fn cut(
     ensures answer { result ≡ cut_answer kind width height source.now order corner sides target.old }
     ensures leaves { target.new ≡ cut_leaves kind width height source.now order corner sides target.old }
 {
-    check_cut(kind, width, height, source, order, corner, sides, target)?;
+    let picture = Picture::new(kind, width, height)?;
+    check_cut(picture, source, order, corner, sides, target)?;
     write_cut(width as usize, corner, sides, source, target);
     Ok((sides.y as usize) * (sides.x as usize))
 }

@@ -21,18 +21,15 @@ impl Layout {
     ghost use Rattle.std.specs.Prelude.{◌≡◌, ◌≤◌, IfOk};
     ghost use Rattle.rules.specs.Sizes.{top, count};
     ghost use Rattle.rules.specs.Places.{plane_of};
-    ghost use Rattle.rules.specs.Refusals.{chain_refusal};
+    ghost use Rattle.rules.specs.Refusals.{buffer_refusal};
     ghost use Rattle.rules.specs.Answers.{done, told};
-    ghost use Rattle.levels.specs.Pictures.{IsPicture};
 
-    // 1, 2, 3: the picture, then a buffer of n entries for its whole chain. A number: for a file it is asked before there is a buffer.
-    #[tactic(auto, using(rules::proofs::Answering::answer_or), unfolding(rules::specs::Refusals::chain_refusal))]
-    pub fn new(kind: u32, width: u32, height: u32, n: usize) -> Result<Layout, Refusal>
-        ensures told { done result ≡ told (chain_refusal kind width height n) }
-        ensures is { IfOk result (λ l. IsPicture kind width height l.picture) }
-        ensures room { IfOk result (λ l. count (faces_of kind) width height ≤ n) }
+    // 3: a buffer of n entries for the picture's whole chain. A number: for a file it is asked before there is a buffer.
+    pub fn new(picture: Picture, n: usize) -> Result<Layout, Refusal>
+        ensures told { done result ≡ told (buffer_refusal (count (faces_of (code_of picture.kind)) picture.width picture.height) n) }
+        ensures is { IfOk result (λ l. l.picture ≡ picture) }
+        ensures room { IfOk result (λ _. count (faces_of (code_of picture.kind)) picture.width picture.height ≤ n) }
     {
-        let picture = Picture::new(kind, width, height)?;
         let mut starts = [0u32; 13];
         let total = starts_of(picture, &mut starts);
         check_room(total as usize, n)?;

@@ -2,10 +2,9 @@
 ghost use Rattle.std.specs.Prelude.{◌≡◌, ◌≤◌, length, IfOk};
 ghost use Rattle.rules.specs.Packing.{packing_of};
 ghost use Rattle.rules.specs.Sizes.{count};
-ghost use Rattle.rules.specs.Refusals.{mipmaps_refusal};
+ghost use Rattle.rules.specs.Refusals.{◌or_else◌, buffer_refusal, mode_refusal};
 ghost use Rattle.rules.specs.Kinds.{faces_of, code_of};
 ghost use Rattle.rules.specs.Answers.{done, told};
-ghost use Rattle.levels.specs.Pictures.{IsPicture};
 
 use crate::layout::Layout;
 use crate::picture::Picture;
@@ -25,19 +24,13 @@ pub struct Lent<'a> {
     pub packing: Packing,
 }
 
-// 1, 2, 3, 15: the chain within the texels, then the mode.
-#[tactic(auto, using(rules::proofs::Answering::answer_or, rules::proofs::Answering::answer_as), unfolding(rules::specs::Refusals::mipmaps_refusal))]
-pub fn lent_chain<'a>(
-    kind: u32,
-    width: u32,
-    height: u32,
-    mode: u32,
-    texels: &'a [u32],
-) -> Result<Lent<'a>, Refusal>
-    ensures told { done result ≡ told (mipmaps_refusal kind width height mode (length texels.now)) }
-    ensures is { IfOk result (λ l. IsPicture kind width height l.chain.picture × (l.packing ≡ packing_of mode) × (l.chain.texels.now ≡ texels.now)) }
+// 3, 15: the chain within the texels, then the mode.
+#[tactic(auto, using(rules::proofs::Answering::answer_or, rules::proofs::Answering::answer_as))]
+pub fn lent_chain<'a>(picture: Picture, mode: u32, texels: &'a [u32]) -> Result<Lent<'a>, Refusal>
+    ensures told { done result ≡ told (buffer_refusal (count (faces_of (code_of picture.kind)) picture.width picture.height) (length texels.now) or_else mode_refusal mode) }
+    ensures is { IfOk result (λ l. (l.chain.picture ≡ picture) × (l.packing ≡ packing_of mode) × (l.chain.texels.now ≡ texels.now)) }
 {
-    let picture = Layout::new(kind, width, height, texels.len())?.picture;
+    Layout::new(picture, texels.len())?;
     let packing = Packing::try_from(mode)?;
     Ok(Lent {
         chain: Chain { picture, texels },

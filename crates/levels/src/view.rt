@@ -5,6 +5,7 @@ ghost use Rattle.rules.specs.Answers.{done, told, view_answer};
 ghost use Rattle.levels.specs.Pictures.{IsFace};
 
 use crate::layout::Layout;
+use crate::picture::Picture;
 use rules::Refusal;
 
 // Where one face of a level stands.
@@ -14,8 +15,9 @@ pub struct Face {
     pub size: usize,
 }
 
-// The face that is viewed, within the texels: 1, 2, 3, 8, 6. A place and not the part: the C boundary hands out where it starts.
-#[tactic(auto, using(rules::proofs::Answering::answer_or), unfolding(rules::specs::Refusals::view_refusal))]
+// The face that is viewed, within the texels: 1, 2, 3, 8, 6. A place and not the part, and codes: the C boundary calls it, and hands out
+// where it starts.
+#[tactic(auto, using(rules::proofs::Answering::answer_or), unfolding(rules::specs::Refusals::chain_refusal, rules::specs::Refusals::view_refusal))]
 pub fn face_of(
     kind: u32,
     width: u32,
@@ -27,8 +29,8 @@ pub fn face_of(
     ensures told { done result ≡ told (view_refusal kind width height (length texels.now) level face) }
     ensures is { IfOk result (λ r. IsFace kind width height level face r × (r.start + r.size ≤ length texels.now)) }
 {
-    let layout = Layout::new(kind, width, height, texels.len())?;
-    let picture = layout.picture;
+    let picture = Picture::new(kind, width, height)?;
+    let layout = Layout::new(picture, texels.len())?;
     picture.check_face(face)?;
     picture.check_level(level)?;
     let plane = layout.plane(level);

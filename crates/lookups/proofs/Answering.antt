@@ -13,11 +13,12 @@ use Rattle.rules.specs.declared.Sampler.{Sampler}
 use Rattle.rules.specs.declared.Plane.{Plane}
 use Rattle.rules.specs.Lanes.{Spots}
 use Rattle.rules.specs.Kinds.{cubemap, faces_of}
-use Rattle.rules.specs.Sizes.{top}
+use Rattle.rules.specs.Sizes.{top, count}
 use Rattle.rules.specs.Places.{plane_of}
-use Rattle.rules.specs.Refusals.{face_taken, sample4_refusal, bilinear_rgb_refusal, bilinear_alpha_refusal, cubemap_refusal, trilinear_refusal}
-use Rattle.rules.specs.Answers.{spots_at, sample4_rgb_answer, sample4_alpha_answer, bilinear_rgb_answer, bilinear_alpha_answer, cubemap_answer, trilinear_answer}
-use Rattle.rules.proofs.Refusing.{Chained, answer-given}
+use Rattle.rules.specs.Refusals.{◌or_else◌, face_taken, picture_refusal, chain_refusal, buffer_refusal, no_cubemap_refusal, sampler_refusal, coordinates_refusal, finite_refusal, sample4_refusal, bilinear_rgb_refusal, bilinear_alpha_refusal, cubemap_refusal, trilinear_refusal}
+use Rattle.rules.specs.Answers.{answer, refused, told, spots_at, sample4_rgb_answer, sample4_alpha_answer, bilinear_rgb_answer, bilinear_alpha_answer, cubemap_answer, trilinear_answer}
+use Rattle.rules.proofs.Refusing.{Chained, or_else-taken, answer-given}
+use Rattle.rules.proofs.Answering.{first, or_else_assoc, answer_then}
 use Rattle.rules.proofs.RefusingLookups.{EachWhole, Cubed, face-below, sample4-facts}
 use Rattle.rules.proofs.Bounds.{faces-some}
 use Rattle.rules.proofs.Inside.{mip-below}
@@ -32,6 +33,19 @@ use Rattle.lane.proofs.Holding.{nearest-inside, squares-within}
 use Rattle.lane.proofs.Together.{nearest-colours, nearest-alphas, bilinear-colours, bilinear-alphas, cubemap-colours, trilinear-colours}
 use Rattle.lookups.specs.Reads.{sample4_four}
 use Rattle.choice.specs.Each.{each_of}
+
+-- what both sample4 calls refuse: a picture, and then what their places refuse
+pub sample4_told : {A : Type 0} (kind w h n : ℕ) (s : Sampler) (u v steps : Lanes) (a : A) → answer (sample4_refusal kind w h n s u v steps) refused (Ok a)
+    ≡ first (told (picture_refusal kind w h))
+      (first (told (buffer_refusal (count (faces_of kind) w h) n or_else no_cubemap_refusal kind or_else sampler_refusal s or_else coordinates_refusal u v or_else finite_refusal steps)) (Ok a))
+unfolding sample4_refusal chain_refusal
+sample4_told kind w h n s u v steps a = ap (λ k. answer k refused (Ok a)) (or_else_assoc (picture_refusal kind w h) _ _) ∙ answer_then _ _ a
+
+pub sample4-none : (kind w h n : ℕ) (s : Sampler) (u v steps : Lanes) → picture_refusal kind w h ≡ 0
+    → (buffer_refusal (count (faces_of kind) w h) n or_else no_cubemap_refusal kind or_else sampler_refusal s or_else coordinates_refusal u v or_else finite_refusal steps) ≡ 0
+    → sample4_refusal kind w h n s u v steps ≡ 0
+unfolding sample4_refusal chain_refusal
+sample4-none kind w h n s u v steps p rest = or_else_assoc (picture_refusal kind w h) _ _ ∙ or_else-taken _ _ p rest
 
 -- ---- by coordinates
 pub faces-below : (kind : ℕ) (f : Wholes) → EachWhole (face_taken kind) f → Below (faces_of kind) f

@@ -46,7 +46,7 @@ fn check_blend(
 }
 
 // The colours of four lanes at a level, each on its own face, blended from the four texels around the coordinate: 1, 2, 3, 8, 4, 6, 5.
-#[tactic(auto, using(rules::proofs::Answering::answer_or, rules::proofs::Answering::answer_as), unfolding(rules::specs::Refusals::bilinear_rgb_refusal, rules::specs::Answers::bilinear_rgb_answer))]
+#[tactic(auto, using(rules::proofs::Answering::answer_or, rules::proofs::Answering::answer_as), unfolding(rules::specs::Refusals::chain_refusal, rules::specs::Refusals::bilinear_rgb_refusal, rules::specs::Answers::bilinear_rgb_answer))]
 pub fn sample_bilinear_rgb(
     kind: u32,
     width: u32,
@@ -60,15 +60,16 @@ pub fn sample_bilinear_rgb(
 ) -> Result<Directions, Refusal>
     ensures answer { result ≡ bilinear_rgb_answer kind width height texels.now sampler u v level faces }
 {
-    let layout = Layout::new(kind, width, height, texels.len())?;
-    check_faces(layout.picture, faces)?;
-    let by = check_blend(layout.picture, sampler, u, v, level)?;
+    let picture = Picture::new(kind, width, height)?;
+    let layout = Layout::new(picture, texels.len())?;
+    check_faces(picture, faces)?;
+    let by = check_blend(picture, sampler, u, v, level)?;
     let at = squares(level_at(&layout, level), faces, by, u, v);
     Ok(squares_rgb(texels, at))
 }
 
 // The alphas of four lanes at a level, blended from the four texels around the coordinate: 1, 2, 3, 8, 4, 6, 5.
-#[tactic(auto, using(rules::proofs::Answering::answer_or, rules::proofs::Answering::answer_as), unfolding(rules::specs::Refusals::bilinear_alpha_refusal, rules::specs::Answers::bilinear_alpha_answer))]
+#[tactic(auto, using(rules::proofs::Answering::answer_or, rules::proofs::Answering::answer_as), unfolding(rules::specs::Refusals::chain_refusal, rules::specs::Refusals::bilinear_alpha_refusal, rules::specs::Answers::bilinear_alpha_answer))]
 pub fn sample_bilinear_alpha(
     kind: u32,
     width: u32,
@@ -81,9 +82,10 @@ pub fn sample_bilinear_alpha(
 ) -> Result<Lanes, Refusal>
     ensures answer { result ≡ bilinear_alpha_answer kind width height texels.now sampler u v level }
 {
-    let layout = Layout::new(kind, width, height, texels.len())?;
-    layout.picture.check_no_cubemap()?;
-    let by = check_blend(layout.picture, sampler, u, v, level)?;
+    let picture = Picture::new(kind, width, height)?;
+    let layout = Layout::new(picture, texels.len())?;
+    picture.check_no_cubemap()?;
+    let by = check_blend(picture, sampler, u, v, level)?;
     let at = squares(level_at(&layout, level), first_faces(), by, u, v);
     Ok(squares_alpha(texels, at))
 }

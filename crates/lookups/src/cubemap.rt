@@ -7,10 +7,11 @@ use choice::lanes::each;
 use lane::cubemap::Cube;
 use lane::pixel::rgb_four;
 use levels::layout::Layout;
+use levels::picture::Picture;
 use rules::{Directions, Refusal, Wholes};
 
 // The colours of four lanes, each that of the nearest texel of the face that its direction meets, at its own level: 1, 2, 3, 8, 7.
-#[tactic(auto, using(rules::proofs::Answering::answer_or, rules::proofs::Answering::answer_as), unfolding(rules::specs::Refusals::cubemap_refusal, rules::specs::Answers::cubemap_answer, rules::specs::Answers::facing_answer))]
+#[tactic(auto, using(rules::proofs::Answering::answer_or, rules::proofs::Answering::answer_as), unfolding(rules::specs::Refusals::chain_refusal, rules::specs::Refusals::cubemap_refusal, rules::specs::Answers::cubemap_answer, rules::specs::Answers::facing_answer))]
 pub fn sample_cubemap_rgb(
     kind: u32,
     width: u32,
@@ -21,10 +22,11 @@ pub fn sample_cubemap_rgb(
 ) -> Result<Directions, Refusal>
     ensures answer { result ≡ cubemap_answer kind width height texels.now directions levels }
 {
-    let layout = Layout::new(kind, width, height, texels.len())?;
-    layout.picture.check_cubemap()?;
+    let picture = Picture::new(kind, width, height)?;
+    let layout = Layout::new(picture, texels.len())?;
+    picture.check_cubemap()?;
     let met = facing(directions)?;
-    let top = layout.picture.top_level();
+    let top = picture.top_level();
     let lowered = each(levels, |level| level.min(top));
     let cube = Cube { layout: &layout };
     Ok(rgb_four(texels, cube.places(met, lowered)))

@@ -7,12 +7,13 @@ use lane::cubemap::Cube;
 use lane::pixel::rgb_four;
 use lane::trilinear::{lerp_four, level_places, two_levels};
 use levels::layout::Layout;
+use levels::picture::Picture;
 use places::level::Top;
 use places::refusals::check_finite;
 use rules::{Directions, Lanes, Refusal};
 
 // The colours of four lanes, each blended from the two levels around its fractional level: 1, 2, 3, 8, 7, 5.
-#[tactic(auto, using(rules::proofs::Answering::answer_or, rules::proofs::Answering::answer_as), unfolding(rules::specs::Refusals::cubemap_refusal, rules::specs::Refusals::trilinear_refusal, rules::specs::Answers::trilinear_answer, rules::specs::Answers::facing_answer))]
+#[tactic(auto, using(rules::proofs::Answering::answer_or, rules::proofs::Answering::answer_as), unfolding(rules::specs::Refusals::chain_refusal, rules::specs::Refusals::cubemap_refusal, rules::specs::Refusals::trilinear_refusal, rules::specs::Answers::trilinear_answer, rules::specs::Answers::facing_answer))]
 pub fn sample_cubemap_trilinear_rgb(
     kind: u32,
     width: u32,
@@ -23,12 +24,13 @@ pub fn sample_cubemap_trilinear_rgb(
 ) -> Result<Directions, Refusal>
     ensures answer { result ≡ trilinear_answer kind width height texels.now directions levels }
 {
-    let layout = Layout::new(kind, width, height, texels.len())?;
-    layout.picture.check_cubemap()?;
+    let picture = Picture::new(kind, width, height)?;
+    let layout = Layout::new(picture, texels.len())?;
+    picture.check_cubemap()?;
     let met = facing(directions)?;
     check_finite(levels)?;
     let top = Top {
-        level: layout.picture.top_level(),
+        level: picture.top_level(),
     };
     let m = two_levels(levels, top);
     let at = level_places(Cube { layout: &layout }, met, m);

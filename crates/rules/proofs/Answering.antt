@@ -44,6 +44,18 @@ unfolding answer
 leaves_as zero found made = refl
 leaves_as (suc n) found made = rw (ne_eqb (suc n) 0 (λ z. omega arith)) refl
 
+-- the same where the others are told as one, by a call of their own
+pub or_else_assoc : (n m k : ℕ) → ((n or_else m) or_else k) ≡ (n or_else (m or_else k))
+unfolding ◌or_else◌
+or_else_assoc zero m k = refl
+or_else_assoc (suc n) m k = rw (ne_eqb (suc n) 0 (λ z. omega arith)) (rw (ne_eqb (suc n) 0 (λ z. omega arith)) refl)
+
+pub answer_then : {A : Type 0} (n m : ℕ) (a : A) → answer (n or_else m) refused (Ok a) ≡ first (told n) (first (told m) (Ok a))
+answer_then n m a = answer_or n m a ∙ ap (first (told n)) (answer_as m a)
+
+pub leaves_then : (n m : ℕ) (found made : List ℕ) → leaves (n or_else m) found made ≡ kept (told n) found (kept (told m) found made)
+leaves_then n m found made = leaves_or n m found made ∙ ap (kept (told n) found) (leaves_as m found made)
+
 -- nothing is refused exactly where the number is 0
 abbrev is-given : {A : Type 0} → Result A Refusal → Bool
 is-given (Ok given) = true

@@ -69,7 +69,7 @@ fn check_length(input: &[u8], size: usize) -> Result<(), Refusal>
 }
 
 // The picture of a file. 12; 1; 2; a chain above 16,384 texels, 3; 12.
-#[tactic(auto, using(rules::proofs::Answering::answer_or, crate::proofs::Files::size_le_count), unfolding(crate::specs::File::file_refusal, crate::specs::File::length_refusal))]
+#[tactic(auto, using(rules::proofs::Answering::answer_or, crate::proofs::Files::size_le_count), unfolding(rules::specs::Refusals::chain_refusal, crate::specs::File::file_refusal, crate::specs::File::length_refusal))]
 pub fn picture_in(input: &[u8]) -> Result<Picture, Refusal>
     ensures told { done result ≡ told (file_refusal input.now) }
     ensures ten { IfOk result (λ _. 10 ≤ length input.now) }
@@ -77,7 +77,8 @@ pub fn picture_in(input: &[u8]) -> Result<Picture, Refusal>
 {
     check_header(input)?;
     let of = header(input);
-    let picture = Layout::new(of.kind, of.width, of.height, 16384)?.picture;
+    let picture = Picture::new(of.kind, of.width, of.height)?;
+    Layout::new(picture, 16384)?;
     check_length(input, picture.level0())?;
     Ok(picture)
 }

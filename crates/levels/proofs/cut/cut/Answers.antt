@@ -1,9 +1,10 @@
 -- `levels::cut::cut` meets its contract: past the test both buffers have room, and the run is the cut.
 use mathlib.Core.Path.{sym, ◌∙◌}
 use lib.ListN.{length}
+use Rattle.rules.specs.Refusals.{cut_call_refusal}
 use Rattle.rules.specs.Answers.{cut_leaves}
 use Rattle.rules.proofs.Answering.{told_none}
-use Rattle.rules.proofs.Refusing.{answer-given}
+use Rattle.rules.proofs.Refusing.{or_else-taken, answer-given}
 use Rattle.rules.proofs.RefusingCuts.{CutCall, cut-facts, cut-taken}
 use Rattle.levels.proofs.Cuts.{cut-is, cut-within}
 use Rattle.levels.proofs.cut.cut.Goals as goal
@@ -13,7 +14,11 @@ use Rattle.levels.proofs.cut.cut.Goals.{In_ok-check_cut}
 known : (c : goal.In_ok-check_cut)
     → let a = c.args in
     CutCall a.kind a.width a.height (length a.source.now) a.order a.corner a.sides (length a.target.now)
-known c = cut-facts _ _ _ _ _ _ _ _ (told_none _ (sym c.in_ok-check_cut.ensures))
+unfolding cut_call_refusal
+known c =
+    let given = c.in_ok-picture.ensures in
+    let is = given.is in
+    cut-facts _ _ _ _ _ _ _ _ (or_else-taken _ _ (told_none _ (sym given.told)) (rw (is.0, is.1, is.2) at (told_none _ (sym c.in_ok-check_cut.ensures))))
 
 pub write_cut-requires : goal.write_cut-requires
 write_cut-requires c =

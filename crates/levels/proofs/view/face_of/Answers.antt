@@ -23,12 +23,13 @@ unfolding plane_of face_start
 ends c =
     let a = c.args in
     let given = c.in_ok-layout.ensures in
-    let is = given.is in
-    let at : c.plane-plane.result.start ≡ start (faces_of a.kind) a.width a.height a.level = rw c.plane-plane.ensures (rw (is.0, is.1, is.2)) in
-    let e : c.plane-plane.result.height * c.plane-plane.result.width ≡ side_at a.level a.height * side_at a.level a.width = rw c.plane-plane.ensures (rw (is.1, is.2)) in
+    let is = c.in_ok-picture.ensures.is in
+    let at : c.plane-plane.result.start ≡ start (faces_of a.kind) a.width a.height a.level = rw c.plane-plane.ensures (rw given.is (rw (is.0, is.1, is.2))) in
+    let e : c.plane-plane.result.height * c.plane-plane.result.width ≡ side_at a.level a.height * side_at a.level a.width = rw c.plane-plane.ensures (rw given.is (rw (is.1, is.2))) in
     let below = rw (is.1, is.2) at c.in_ok-check_level.ensures.below in
     let face = rw is.0 at c.in_ok-check_face.ensures.below in
-    (at, e, rw (at, e) (le_trans (face-end (faces_of a.kind) a.width a.height a.level a.face below.0 face) given.room))
+    let room = rw (is.0, is.1, is.2) at given.room in
+    (at, e, rw (at, e) (le_trans (face-end (faces_of a.kind) a.width a.height a.level a.face below.0 face) room))
 
 pub overflow_mul-size : goal.overflow_mul-size
 overflow_mul-size c = omega (arith, ends (goal.at.overflow_mul-size c).After-plane-plane)

@@ -2,7 +2,7 @@
 use mathlib.Core.Path.{◌≡◌, sym, ap, ◌∙◌, subst}
 use lib.ListN.{length}
 use Rattle.std.specs.Prelude.{Ok}
-use Rattle.rules.specs.Refusals.{cubemap_refusal}
+use Rattle.rules.specs.Refusals.{chain_refusal, cubemap_refusal}
 use Rattle.rules.proofs.Refusing.{or_else-taken, cube-facts}
 use Rattle.rules.proofs.RefusingLookups.{Cubed, cubemap-facts}
 use Rattle.rules.proofs.Answering.{told_none}
@@ -16,11 +16,13 @@ use Rattle.lookups.proofs.cubemap.sample_cubemap_rgb.Goals.{After-each-lowered, 
 
 -- past the refusals
 none : (c : goal.In_ok-met) → let a = c.args in cubemap_refusal a.kind a.width a.height (length a.texels.now) a.directions ≡ 0
-unfolding cubemap_refusal
+unfolding cubemap_refusal chain_refusal
 none c =
-    let given = c.in_ok-layout.ensures in
+    let given = c.in_ok-picture.ensures in
+    let is = given.is in
+    let room = told_none _ (sym c.in_ok-layout.ensures.told) in
     let cube = told_none _ (sym c.in_ok-check_cubemap.ensures) in
-    or_else-taken _ _ (told_none _ (sym given.told)) (or_else-taken _ _ (rw given.is.0 at cube) (told_none _ (sym c.in_ok-met.ensures.told)))
+    or_else-taken _ _ (or_else-taken _ _ (told_none _ (sym given.told)) (rw (is.0, is.1, is.2) at room)) (or_else-taken _ _ (rw is.0 at cube) (told_none _ (sym c.in_ok-met.ensures.told)))
 
 facts : (c : goal.In_ok-met) → let a = c.args in Cubed a.kind a.width a.height (length a.texels.now) a.directions
 facts c = cubemap-facts _ _ _ _ _ (none c)
@@ -28,21 +30,21 @@ facts c = cubemap-facts _ _ _ _ _ (none c)
 -- each level is lowered to the top level
 lowered : (c : goal.After-each-lowered) → let a = c.args in c.each-lowered.result ≡ lowered_to (top a.width a.height) a.levels
 lowered c =
-    let is = c.in_ok-layout.ensures.is in
+    let is = c.in_ok-picture.ensures.is in
     rw (← is.1, ← is.2, ← c.top_level-top.ensures.0) (grind serving)
 
 pub invariant_of-cube : goal.invariant_of-cube
-invariant_of-cube c = record { is = cube-facts _ (told_none _ (sym c.in_ok-check_cubemap.ensures)) }
+invariant_of-cube c = record { is = rw c.in_ok-layout.ensures.is (cube-facts _ (told_none _ (sym c.in_ok-check_cubemap.ensures))) }
 
 pub rgb_four-requires : goal.rgb_four-requires
 rgb_four-requires c =
-    let is = c.in_ok-layout.ensures.is in
-    subst (Inside _) (sym (rw (is.1, is.2) at c.places.ensures)) (cubes-inside _ _ _ (cube-chained (facts (goal.at.rgb_four-requires c).In_ok-met)) c.in_ok-met.met.on)
+    let is = c.in_ok-picture.ensures.is in
+    subst (Inside _) (sym (rw (c.in_ok-layout.ensures.is, is.1, is.2) at c.places.ensures)) (cubes-inside _ _ _ (cube-chained (facts (goal.at.rgb_four-requires c).In_ok-met)) c.in_ok-met.met.on)
 
 pub returns : goal.returns
 returns c =
     let a = c.args in
-    let is = c.in_ok-layout.ensures.is in
+    let is = c.in_ok-picture.ensures.is in
     let at = (goal.at.returns c).In_ok-met in
     let low = lowered (goal.at.returns c).After-each-lowered in
-    record { answer = ap Ok (c.rgb_four.ensures ∙ ap (read_rgb _) (rw (is.1, is.2, low) at c.places.ensures)) ∙ sym (cubemap-read a.kind a.width a.height _ a.directions a.levels (none at) c.in_ok-met.ensures.met) }
+    record { answer = ap Ok (c.rgb_four.ensures ∙ ap (read_rgb _) (rw (c.in_ok-layout.ensures.is, is.1, is.2, low) at c.places.ensures)) ∙ sym (cubemap-read a.kind a.width a.height _ a.directions a.levels (none at) c.in_ok-met.ensures.met) }

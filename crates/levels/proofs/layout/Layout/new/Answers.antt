@@ -6,7 +6,7 @@ use Rattle.levels.proofs.layout.Layout.new.Goals as goal
 
 pub invariant_of-result : goal.invariant_of-result
 invariant_of-result c =
-    let p = c.in_ok-picture.picture in
+    let p = c.args.picture in
     let s = p.sides in
     record {
       started = started _ (omega arith) s.most-f s.most-w s.most-h (top-most p.width p.height s.some-w s.most-w s.most-h) c.starts_of-total.ensures.leaves;
