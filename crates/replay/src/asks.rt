@@ -1,5 +1,5 @@
 // A record's call: the buffer that it is lent, and the call itself.
-use crate::stream::{ROOM, fill_texels};
+use crate::stream::{fill_texels, with_texels};
 use crate::words::Record;
 use crate::{checks, light, parts, range_calls, samples};
 
@@ -58,16 +58,14 @@ impl TryFrom<u32> for Call {
     }
 }
 
-// A call over the texels that it is lent. A buffer that is longer than any of the list agrees with nothing.
+// A call over the texels that it is lent.
 fn lent<F: FnOnce(&Record, &mut [u32]) -> bool>(record: &Record, call: F) -> bool
     requires { F.IsAlwaysCallable call }
 {
-    let mut room = [0u32; ROOM];
-    let Some(texels) = room.get_mut(..record[5] as usize) else {
-        return false;
-    };
-    fill_texels(record, texels);
-    call(record, texels)
+    with_texels(0, record[5], |texels: &mut [u32]| {
+        fill_texels(record, texels);
+        call(record, texels)
+    })
 }
 
 // Whether the unit answers as the record says. A number that no call has agrees with nothing.

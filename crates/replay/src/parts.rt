@@ -1,6 +1,6 @@
 // The calls on sizes, the chain, the cross, the cut and the view: each asked as a record says, and its answer compared.
 use crate::answers::{agrees, count, filled_agrees};
-use crate::stream::{BEFORE, ROOM, fill_bytes};
+use crate::stream::{BEFORE, with_bytes, with_texels};
 use crate::words::Record;
 use station::parts;
 
@@ -23,31 +23,24 @@ pub fn generate_mipmaps_agrees(record: &Record, texels: &mut [u32]) -> bool {
 // Call 2.
 pub fn cut_cross_agrees(record: &Record) -> bool {
     let [_, _, _, width, height, read, written, ..] = *record;
-    let mut bytes = [0u8; ROOM];
-    let Some(cross) = bytes.get_mut(..read as usize) else {
-        return false;
-    };
-    let mut texels = [BEFORE; ROOM];
-    let Some(faces) = texels.get_mut(..written as usize) else {
-        return false;
-    };
-    fill_bytes(record, cross);
-    filled_agrees(record, faces, |faces: &mut [u32], written: &mut u64| {
-        parts::swathecold_cut_cross(width, height, cross, faces, written)
+    with_bytes(record, read, |cross: &mut [u8]| {
+        with_texels(BEFORE, written, |faces: &mut [u32]| {
+            filled_agrees(record, faces, |faces: &mut [u32], written: &mut u64| {
+                parts::swathecold_cut_cross(width, height, cross, faces, written)
+            })
+        })
     })
 }
 
 // Call 3.
 pub fn cut_agrees(record: &Record, source: &mut [u32]) -> bool {
     let [_, _, kind, width, height, _, order, x, y, w, h, len, ..] = *record;
-    let mut texels = [BEFORE; ROOM];
-    let Some(target) = texels.get_mut(..len as usize) else {
-        return false;
-    };
-    filled_agrees(record, target, |target: &mut [u32], written: &mut u64| {
-        parts::swathecold_cut(
-            kind, width, height, source, order, x, y, w, h, target, written,
-        )
+    with_texels(BEFORE, len, |target: &mut [u32]| {
+        filled_agrees(record, target, |target: &mut [u32], written: &mut u64| {
+            parts::swathecold_cut(
+                kind, width, height, source, order, x, y, w, h, target, written,
+            )
+        })
     })
 }
 

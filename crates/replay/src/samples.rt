@@ -1,4 +1,5 @@
-// The lookups: each asked as a record says, and its answer compared.
+// The lookups: each asked as a record says, and its answer compared. Each has an array of its own for what is handed out: no function is
+// proved yet that is handed a closure over an array of any length.
 use crate::answers::agrees;
 use crate::words::{Record, bits, lanes, wholes};
 use station::samples;

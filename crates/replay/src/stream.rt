@@ -4,7 +4,7 @@ ghost use Rattle.std.specs.Prelude.{◌<◌};
 use crate::words::Record;
 
 // The texels or bytes of the longest buffer of the list.
-pub const ROOM: usize = 8192;
+const ROOM: usize = 8192;
 
 // What a buffer that is only written holds before.
 pub const BEFORE: u32 = 0xC5C55C5C;
@@ -41,9 +41,8 @@ impl Stream {
 
 // Copies as many as there are in both.
 fn copy_texels(words: &[u32], texels: &mut [u32]) {
-    for (texel, word) in texels.iter_mut().zip(words) {
-        *texel = *word;
-    }
+    let n = words.len().min(texels.len());
+    texels[..n].copy_from_slice(&words[..n]);
 }
 
 // Fills with the texels of a seed.
@@ -64,10 +63,35 @@ pub fn fill_texels(record: &Record, texels: &mut [u32]) {
 }
 
 // Fills a cross or ranges.
-pub fn fill_bytes(record: &Record, bytes: &mut [u8]) {
+fn fill_bytes(record: &Record, bytes: &mut [u8]) {
     let mut stream = Stream::of(record[1]);
     for byte in bytes {
         *byte = stream.byte();
+    }
+}
+
+// A call over so many texels, each `before`. A buffer that is longer than any of the list agrees with nothing.
+pub fn with_texels<F: FnOnce(&mut [u32]) -> bool>(before: u32, size: u32, call: F) -> bool
+    requires { F.IsAlwaysCallable call }
+{
+    let mut room = [before; ROOM];
+    match room.get_mut(..size as usize) {
+        Some(texels) => call(texels),
+        None => false,
+    }
+}
+
+// The same over bytes of the record's seed. Two functions: of a type parameter it is not known that ROOM of them fit in memory.
+pub fn with_bytes<F: FnOnce(&mut [u8]) -> bool>(record: &Record, size: u32, call: F) -> bool
+    requires { F.IsAlwaysCallable call }
+{
+    let mut room = [0u8; ROOM];
+    match room.get_mut(..size as usize) {
+        Some(bytes) => {
+            fill_bytes(record, bytes);
+            call(bytes)
+        }
+        None => false,
     }
 }
 
