@@ -4,8 +4,8 @@ ghost use Rattle.lane.specs.Cubes.{AllOnCube};
 use choice::lanes::{each, pairs};
 use rules::{Four, Spot, Spots};
 
-// Where four directions that are taken meet the cube. Side by side, since compiled code calls what hands them out: lane by lane a call of
-// `cubemap_uv_from_normal` took 475 instructions in place of 221.
+// Where four directions that are taken meet the cube. Side by side, since compiled code calls what hands this out: lane by lane a call of
+// `cubemap_uv_from_normal` took 503 instructions in place of 220.
 #[derive(Clone, Copy)]
 pub struct Seen {
     pub spots: Spots,

@@ -70,22 +70,21 @@ fn on_face(q: f32, major: f32) -> f32
     0.5 * (q / major + 1.0)
 }
 
-// Where a direction that is taken meets the cube: X if |x| >= |y| and |x| >= |z|; else Y if |y| > |x| and |y| >= |z|; else Z.
+// Where a direction meets the cube, one that is taken on its face.
+// X if |x| >= |y| and |x| >= |z|; else Y if |y| > |x| and |y| >= |z|; else Z.
 // (u, v) before scaling: (-z*sx, -y), (x, z*sy), (x*sz, -y).
 pub fn meet(x: f32, y: f32, z: f32) -> Spot
-    requires { T (direction_taken x y z) }
     ensures at { result ≡ spot_of x y z }
-    ensures on { OnCube result }
+    ensures on { T (direction_taken x y z) → OnCube result }
 {
-    let d = Vector { x, y, z };
-    let size = sizes(d);
+    let size = sizes(Vector { x, y, z });
     let on_x = (size.x >= size.y) & (size.x >= size.z);
     let on_y = (size.y > size.x) & (size.y >= size.z);
-    let q = pick(on_x, -d.z * sign(d.x), pick(on_y, d.x, d.x * sign(d.z)));
-    let p = pick(on_x, -d.y, pick(on_y, d.z * sign(d.y), -d.y));
+    let q = pick(on_x, -z * sign(x), pick(on_y, x, x * sign(z)));
+    let p = pick(on_x, -y, pick(on_y, z * sign(y), -y));
     let major = pick(on_x, size.x, pick(on_y, size.y, size.z));
     Spot {
-        face: pick(on_x, odd(d.x), pick(on_y, 2 + odd(d.y), 4 + odd(d.z))),
+        face: pick(on_x, odd(x), pick(on_y, 2 + odd(y), 4 + odd(z))),
         u: on_face(q, major),
         v: on_face(p, major),
     }

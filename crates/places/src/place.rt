@@ -1,5 +1,4 @@
 // A texel's place in the chain. Every place that is read goes through here.
-ghost use Rattle.std.specs.Prelude.{◌≡◌};
 ghost use Rattle.places.specs.Sized.{Sized};
 
 use crate::side::Side;

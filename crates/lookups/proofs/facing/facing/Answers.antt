@@ -5,5 +5,5 @@ use Rattle.rules.proofs.RefusingLookups.{directions-facts}
 use Rattle.rules.proofs.Answering.{told_none}
 use Rattle.lookups.proofs.facing.facing.Goals as goal
 
-pub each-met-requires : goal.each-met-requires
-each-met-requires c = let f = directions-facts _ (told_none _ (sym c.in_ok-check_directions.ensures)) in grind serving
+pub new-requires : goal.new-requires
+new-requires c = let f = directions-facts _ (told_none _ (sym c.in_ok-check_directions.ensures)) in grind serving

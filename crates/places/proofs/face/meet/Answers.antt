@@ -31,6 +31,6 @@ returns-clause-at c =
     (spot-chosen c.args.x c.args.y c.args.z)
 
 pub returns-clause-on : goal.returns-clause-on
-returns-clause-on c =
+returns-clause-on c taken =
     let a = c.args in
-    subst OnCube (sym (returns-clause-at c)) (on-cube a.x a.y a.z (subst T (sym c.well_formed.0.1) tt) (subst T (sym c.well_formed.1.1.0.1) tt) c.requires)
+    subst OnCube (sym (returns-clause-at c)) (on-cube a.x a.y a.z (subst T (sym c.well_formed.0.1) tt) (subst T (sym c.well_formed.1.1.0.1) tt) taken)
