@@ -37,7 +37,7 @@ use Rattle.choice.specs.Each.{each_of}
 -- what both sample4 calls refuse: a picture, and then what their places refuse
 pub sample4_told : {A : Type 0} (kind w h n : ℕ) (s : Sampler) (u v steps : Lanes) (a : A) → answer (sample4_refusal kind w h n s u v steps) refused (Ok a)
     ≡ first (told (picture_refusal kind w h))
-      (first (told (buffer_refusal (count (faces_of kind) w h) n or_else no_cubemap_refusal kind or_else sampler_refusal s or_else coordinates_refusal u v or_else finite_refusal steps)) (Ok a))
+    (first (told (buffer_refusal (count (faces_of kind) w h) n or_else no_cubemap_refusal kind or_else sampler_refusal s or_else coordinates_refusal u v or_else finite_refusal steps)) (Ok a))
 unfolding sample4_refusal chain_refusal
 sample4_told kind w h n s u v steps a = ap (λ k. answer k refused (Ok a)) (or_else_assoc (picture_refusal kind w h) _ _) ∙ answer_then _ _ a
 

@@ -6,6 +6,7 @@ ghost use Rattle.rules.specs.Answers.{ranges_answer, ranges_leaves};
 use crate::level0::Level0;
 use crate::tile::{ranges_size, tiles};
 use rules::Refusal;
+use texture::Picture;
 
 // Writes the range of every tile.
 fn write_tiles(level: Level0<'_>, ranges: &mut [u8])
@@ -19,7 +20,7 @@ fn write_tiles(level: Level0<'_>, ranges: &mut [u8])
 }
 
 // Fills the front of `ranges` with those of the picture's level 0 and answers the bytes written.
-#[tactic(auto, using(rules::proofs::Answering::answer_as, rules::proofs::Answering::leaves_as), unfolding(rules::specs::Answers::ranges_answer, rules::specs::Answers::ranges_leaves))]
+#[tactic(auto, using(rules::proofs::Answering::answer_then, rules::proofs::Answering::leaves_then), unfolding(rules::specs::Refusals::ranges_refusal, rules::specs::Answers::ranges_answer, rules::specs::Answers::ranges_leaves))]
 pub fn build_ranges(
     kind: u32,
     width: u32,
@@ -30,7 +31,8 @@ pub fn build_ranges(
     ensures answer { result ≡ ranges_answer kind width height texels.now ranges.old }
     ensures leaves { ranges.new ≡ ranges_leaves kind width height texels.now ranges.old }
 {
-    let level = Level0::new(kind, width, height, texels, ranges)?;
+    let picture = Picture::new(kind, width, height)?;
+    let level = Level0::new(picture, texels, ranges)?;
     write_tiles(level, ranges);
-    Ok(ranges_size(level.picture))
+    Ok(ranges_size(picture))
 }

@@ -1,6 +1,6 @@
 // A picture that is no cubemap, and its level 0, of which the calls on ranges refuse nothing.
-ghost use Rattle.std.specs.Prelude.{length};
-ghost use Rattle.rules.specs.Kinds.{code_of};
+ghost use Rattle.std.specs.Prelude.{◌*◌, length};
+ghost use Rattle.rules.specs.Kinds.{faces_of, code_of};
 ghost use Rattle.rules.proofs.Building.{Flat};
 
 use crate::tile::ranges_size;
@@ -17,24 +17,17 @@ pub struct Level0<'a> {
 impl<'a> Level0<'a> {
     ghost use Rattle.std.specs.Prelude.{◌≡◌, ◌≤◌, IfOk};
     ghost use Rattle.rules.specs.Ranges.{ranges_size};
-    ghost use Rattle.rules.specs.Refusals.{ranges_refusal};
+    ghost use Rattle.rules.specs.Refusals.{◌or_else◌, buffer_refusal, no_cubemap_refusal};
     ghost use Rattle.rules.specs.Answers.{done, told};
 
-    // 1, 2, 3 (level 0), 3 (the ranges), 8.
-    #[tactic(auto, using(rules::proofs::Answering::answer_or, rules::proofs::Answering::answer_as), unfolding(rules::specs::Refusals::ranges_refusal))]
-    pub fn new(
-        kind: u32,
-        width: u32,
-        height: u32,
-        texels: &'a [u32],
-        ranges: &[u8],
-    ) -> Result<Level0<'a>, Refusal>
-        ensures told { done result ≡ told (ranges_refusal kind width height (length texels.now) (length ranges.now)) }
-        ensures picture { IfOk result (λ l. (code_of l.picture.kind ≡ kind) × (l.picture.width ≡ width) × (l.picture.height ≡ height)) }
+    // 3 (level 0), 3 (the ranges), 8.
+    #[tactic(auto, using(rules::proofs::Answering::answer_or, rules::proofs::Answering::answer_as))]
+    pub fn new(picture: Picture, texels: &'a [u32], ranges: &[u8]) -> Result<Level0<'a>, Refusal>
+        ensures told { done result ≡ told (buffer_refusal (faces_of (code_of picture.kind) * picture.height * picture.width) (length texels.now) or_else buffer_refusal (ranges_size picture.width picture.height) (length ranges.now) or_else no_cubemap_refusal (code_of picture.kind)) }
+        ensures picture { IfOk result (λ l. l.picture ≡ picture) }
         ensures texels { IfOk result (λ l. l.texels.now ≡ texels.now) }
         ensures room { IfOk result (λ l. ranges_size l.picture.width l.picture.height ≤ length ranges.now) }
     {
-        let picture = Picture::new(kind, width, height)?;
         check_room(picture.level0(), texels.len())?;
         check_room(ranges_size(picture), ranges.len())?;
         picture.check_no_cubemap()?;

@@ -1,8 +1,9 @@
 // What the call that replaces a texel refuses besides.
-ghost use Rattle.std.specs.Prelude.{◌≡◌, length, IfOk};
-ghost use Rattle.rules.specs.Kinds.{code_of};
-ghost use Rattle.rules.specs.Refusals.{outside_refusal, replace_refusal};
-ghost use Rattle.rules.specs.Answers.{done, told};
+ghost use Rattle.std.specs.Prelude.{◌≡◌, ◌*◌, length};
+ghost use Rattle.rules.specs.Kinds.{faces_of, code_of};
+ghost use Rattle.rules.specs.Ranges.{ranges_size};
+ghost use Rattle.rules.specs.Refusals.{◌or_else◌, buffer_refusal, no_cubemap_refusal, outside_refusal};
+ghost use Rattle.rules.specs.Answers.{told};
 
 use crate::level0::Level0;
 use rules::Refusal;
@@ -21,20 +22,16 @@ fn check_inside(picture: Picture, x: u32, y: u32) -> Result<(), Refusal>
 }
 
 // The tests for ranges, then 14.
-#[tactic(auto, using(rules::proofs::Answering::answer_or, rules::proofs::Answering::answer_as), unfolding(rules::specs::Refusals::replace_refusal))]
+#[tactic(auto, using(rules::proofs::Answering::answer_then))]
 pub fn check_replace(
-    kind: u32,
-    width: u32,
-    height: u32,
+    picture: Picture,
     texels: &[u32],
     ranges: &[u8],
     x: u32,
     y: u32,
-) -> Result<Picture, Refusal>
-    ensures told { done result ≡ told (replace_refusal kind width height (length texels.now) (length ranges.now) x y) }
-    ensures is { IfOk result (λ p. (code_of p.kind ≡ kind) × (p.width ≡ width) × (p.height ≡ height)) }
+) -> Result<(), Refusal>
+    ensures { result ≡ told ((buffer_refusal (faces_of (code_of picture.kind) * picture.height * picture.width) (length texels.now) or_else buffer_refusal (ranges_size picture.width picture.height) (length ranges.now) or_else no_cubemap_refusal (code_of picture.kind)) or_else outside_refusal picture.width picture.height x y) }
 {
-    let picture = Level0::new(kind, width, height, texels, ranges)?.picture;
-    check_inside(picture, x, y)?;
-    Ok(picture)
+    Level0::new(picture, texels, ranges)?;
+    check_inside(picture, x, y)
 }
