@@ -2,7 +2,6 @@
 ghost use Rattle.std.specs.Prelude.{◌≡◌};
 ghost use Rattle.rules.specs.Lanes.{lanes_of};
 ghost use Rattle.rules.specs.Bilinear.{blend_of};
-ghost use Rattle.rules.proofs.RefusingLookups.{Coordinates};
 ghost use Rattle.places.specs.Sized.{Below};
 ghost use Rattle.lane.specs.Reading.{squares_at, AllWithin, blended_rgb, blended_alpha};
 
@@ -11,6 +10,7 @@ use crate::reading::places;
 use choice::lanes::{each, pairs};
 use places::axis::four_axes;
 use places::blend::{blend, blend_alpha, weigh};
+use places::coordinate::Coordinates;
 use places::place::Level;
 use places::wrap::Wrapping;
 use rules::{Corners, Directions, Four, Lanes, Weights, Wholes};
@@ -21,11 +21,11 @@ pub fn squares(
     on: Level,
     faces: Wholes,
     by: Wrapping,
-    u: Lanes,
-    v: Lanes,
+    u: Coordinates,
+    v: Coordinates,
 ) -> Corners<Four<usize>, Lanes>
-    requires { Below on.plane.faces faces × Coordinates u v }
-    ensures { result ≡ squares_at on.plane faces by.s by.t u v }
+    requires { Below on.plane.faces faces }
+    ensures { result ≡ squares_at on.plane faces by.s by.t u.lanes v.lanes }
 {
     let x = four_axes(by.s, u, on.width());
     let y = four_axes(by.t, v, on.height());

@@ -1,8 +1,8 @@
 // The bilinear lookup of four lanes, at a level of their picture.
-ghost use Rattle.std.specs.Prelude.{◌≡◌};
+ghost use Rattle.std.specs.Prelude.{◌≡◌, IfOk};
 ghost use Rattle.rules.specs.Kinds.{code_of};
 ghost use Rattle.rules.specs.Refusals.{◌or_else◌, sampler_refusal, level_refusal, coordinates_refusal, faces_refusal};
-ghost use Rattle.rules.specs.Answers.{answer, refused, told, bilinear_rgb_answer, bilinear_alpha_answer};
+ghost use Rattle.rules.specs.Answers.{done, told, bilinear_rgb_answer, bilinear_alpha_answer};
 ghost use Rattle.places.specs.Samplers.{wrapping_of};
 
 use choice::lanes::{all, each};
@@ -11,24 +11,24 @@ use lane::level::level_at;
 use lane::reading::first_faces;
 use levels::layout::Layout;
 use levels::picture::Picture;
+use places::coordinate::Coordinates;
 use places::refusals::check_coordinates;
 use places::wrap::Wrapping;
 use rules::{Directions, Lanes, Refusal, Sampler, Wholes};
 
-// 8: one of four faces above 5 for a cubemap, or not 0 for another kind.
+// 8: one of four faces that the picture has not.
 #[tactic(auto, unfolding(rules::specs::Refusals::faces_refusal, rules::specs::Refusals::refusal_of, rules::specs::Lanes::in_lanes, rules::specs::Answers::answer))]
 fn check_faces(picture: Picture, faces: Wholes) -> Result<(), Refusal>
     ensures { result ≡ told (faces_refusal (code_of picture.kind) faces) }
 {
-    let n = picture.kind.faces();
-    if all(each(faces, |face| (face as usize) < n)) {
+    if all(each(faces, |face| picture.has_face(face))) {
         Ok(())
     } else {
         Err(Refusal::KindNotTaken)
     }
 }
 
-// What stands behind the 8 of a bilinear lookup, and the modes of its sampler: 4, 6, 5.
+// What stands behind the 8 of a bilinear lookup, the modes of its sampler, and its coordinates: 4, 6, 5.
 #[tactic(auto, using(rules::proofs::Answering::answer_or, rules::proofs::Answering::answer_as), unfolding(rules::specs::Refusals::sampler_refusal))]
 fn check_blend(
     picture: Picture,
@@ -36,13 +36,14 @@ fn check_blend(
     u: Lanes,
     v: Lanes,
     level: u32,
-) -> Result<Wrapping, Refusal>
-    ensures { result ≡ answer (sampler_refusal sampler or_else level_refusal picture.width picture.height level or_else coordinates_refusal u v) refused (Ok (wrapping_of sampler)) }
+) -> Result<(Wrapping, Coordinates, Coordinates), Refusal>
+    ensures told { done result ≡ told (sampler_refusal sampler or_else level_refusal picture.width picture.height level or_else coordinates_refusal u v) }
+    ensures are { IfOk result (λ taken. (taken.0 ≡ wrapping_of sampler) × (taken.1.lanes ≡ u) × (taken.2.lanes ≡ v)) }
 {
     let by = Wrapping::try_from(sampler)?;
     picture.check_level(level)?;
-    check_coordinates(u, v)?;
-    Ok(by)
+    let (u, v) = check_coordinates(u, v)?;
+    Ok((by, u, v))
 }
 
 // The colours of four lanes at a level, each on its own face, blended from the four texels around the coordinate: 1, 2, 3, 8, 4, 6, 5.
@@ -63,7 +64,7 @@ pub fn sample_bilinear_rgb(
     let picture = Picture::new(kind, width, height)?;
     let layout = Layout::new(picture, texels.len())?;
     check_faces(picture, faces)?;
-    let by = check_blend(picture, sampler, u, v, level)?;
+    let (by, u, v) = check_blend(picture, sampler, u, v, level)?;
     let at = squares(level_at(&layout, level), faces, by, u, v);
     Ok(squares_rgb(texels, at))
 }
@@ -85,7 +86,7 @@ pub fn sample_bilinear_alpha(
     let picture = Picture::new(kind, width, height)?;
     let layout = Layout::new(picture, texels.len())?;
     picture.check_no_cubemap()?;
-    let by = check_blend(picture, sampler, u, v, level)?;
+    let (by, u, v) = check_blend(picture, sampler, u, v, level)?;
     let at = squares(level_at(&layout, level), first_faces(), by, u, v);
     Ok(squares_alpha(texels, at))
 }

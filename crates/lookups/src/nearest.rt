@@ -32,7 +32,7 @@ fn sample4_places(
     let layout = Layout::new(picture, texels.len())?;
     picture.check_no_cubemap()?;
     let by = Wrapping::try_from(sampler)?;
-    check_coordinates(u, v)?;
+    let (u, v) = check_coordinates(u, v)?;
     check_finite(steps)?;
     let width = Side {
         texels: picture.width,
