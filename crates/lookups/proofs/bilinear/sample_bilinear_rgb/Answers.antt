@@ -6,9 +6,8 @@ use Rattle.rules.specs.Places.{plane_of}
 use Rattle.rules.specs.Refusals.{chain_refusal, bilinear_rgb_refusal}
 use Rattle.rules.proofs.Refusing.{or_else-taken}
 use Rattle.rules.proofs.RefusingLookups.{BilinearRgb, bilinear-rgb-facts}
-use Rattle.rules.proofs.Answering.{told_none, given_none, given_is}
+use Rattle.rules.proofs.Answering.{told_none}
 use Rattle.lane.specs.Reading.{AllWithin, blended_rgb}
-use Rattle.places.specs.Samplers.{wrapping_of}
 use Rattle.lookups.proofs.Answering.{faces-below, level-faces, level-squares, bilinear-rgb-read}
 use Rattle.lookups.proofs.bilinear.sample_bilinear_rgb.Goals as goal
 use Rattle.lookups.proofs.bilinear.sample_bilinear_rgb.Goals.{After-level_at, In_ok-by}
@@ -21,15 +20,15 @@ none c =
     let is = given.is in
     let room = told_none _ (sym c.in_ok-layout.ensures.told) in
     let face = told_none _ (sym c.in_ok-check_faces.ensures) in
-    let rest = given_none _ _ _ (sym c.in_ok-by.ensures) in
+    let rest = told_none _ (sym c.in_ok-by.ensures.told) in
     or_else-taken _ _ (or_else-taken _ _ (told_none _ (sym given.told)) (rw (is.0, is.1, is.2) at room)) (or_else-taken _ _ (rw is.0 at face) (rw (is.1, is.2) at rest))
 
 facts : (c : goal.In_ok-by) → let a = c.args in BilinearRgb a.kind a.width a.height (length a.texels.now) a.sampler a.u a.v a.level a.faces
 facts c = bilinear-rgb-facts _ _ _ _ _ _ _ _ _ (none c)
 
--- the level and the modes
-at : (c : goal.After-level_at) → let a = c.args in (c.level_at.result.plane ≡ plane_of a.kind a.width a.height a.level) × (c.in_ok-by.by ≡ wrapping_of a.sampler)
-at c = let is = c.in_ok-picture.ensures.is in (c.level_at.ensures ∙ rw (c.in_ok-layout.ensures.is, is.0, is.1, is.2), given_is _ _ _ (sym c.in_ok-by.ensures))
+-- the level
+at : (c : goal.After-level_at) → let a = c.args in c.level_at.result.plane ≡ plane_of a.kind a.width a.height a.level
+at c = let is = c.in_ok-picture.ensures.is in c.level_at.ensures ∙ rw (c.in_ok-layout.ensures.is, is.0, is.1, is.2)
 
 pub level_at-requires : goal.level_at-requires
 level_at-requires c =
@@ -40,20 +39,23 @@ pub squares-at-requires : goal.squares-at-requires
 squares-at-requires c =
     let a = c.args in
     let f = facts (goal.at.squares-at-requires c).In_ok-by in
+    let are = c.in_ok-by.ensures.are in
     let e = at (goal.at.squares-at-requires c).After-level_at in
-    (level-faces a.kind a.width a.height a.texels.now a.sampler a.u a.v a.level e.0 e.1 _ (faces-below _ _ f.faces), f.blended.coordinates)
+    level-faces a.kind a.width a.height a.texels.now a.sampler a.u a.v a.level e are.0 _ (faces-below _ _ f.faces)
 
 pub squares_rgb-requires : goal.squares_rgb-requires
 squares_rgb-requires c =
     let a = c.args in
     let f = facts (goal.at.squares_rgb-requires c).In_ok-by in
+    let are = c.in_ok-by.ensures.are in
     let e = at (goal.at.squares_rgb-requires c).After-level_at in
-    subst (AllWithin _) (sym c.squares-at.ensures) (level-squares a.kind a.width a.height _ a.sampler a.u a.v a.level e.0 e.1 _ (faces-below _ _ f.faces) f.chained f.blended.below)
+    subst (AllWithin _) (sym (rw (are.1, are.2) at c.squares-at.ensures)) (level-squares a.kind a.width a.height _ a.sampler a.u a.v a.level e are.0 _ (faces-below _ _ f.faces) f.chained f.blended.below)
 
 pub returns : goal.returns
 returns c =
     let a = c.args in
+    let are = c.in_ok-by.ensures.are in
     let e = at (goal.at.returns c).After-level_at in
     record {
-      answer = ap Ok (c.squares_rgb.ensures ∙ ap (blended_rgb _) c.squares-at.ensures) ∙ sym (bilinear-rgb-read a.kind a.width a.height _ a.sampler a.u a.v a.level e.0 e.1 _ (none (goal.at.returns c).In_ok-by));
+      answer = ap Ok (c.squares_rgb.ensures ∙ ap (blended_rgb _) (rw (are.1, are.2) at c.squares-at.ensures)) ∙ sym (bilinear-rgb-read a.kind a.width a.height _ a.sampler a.u a.v a.level e are.0 _ (none (goal.at.returns c).In_ok-by));
     }
