@@ -10,6 +10,7 @@ use places::wrap::Wrapping;
 use rules::Four;
 
 // The places of four lanes, all on the first face.
+#[tactic(auto, unfolding(crate::specs::Reading::nearest_four, crate::specs::Reading::places_of, rules::specs::Places::nearest_place, places::specs::Stands::nearests_of))]
 pub fn nearest_places(on: Level, by: Wrapping, u: Coordinates, v: Coordinates) -> Four<usize>
     ensures { result ≡ nearest_four on.plane by.s by.t u.lanes v.lanes }
 {

@@ -64,6 +64,7 @@ pub fn sample4_rgb(
 }
 
 // The alphas of four lanes, each that of the nearest texel, at the level that the steps ask for.
+// Apart from `sample4_rgb`, since C names both and they answer different values; what they share is `sample4_places`.
 #[tactic(auto, using(rules::proofs::Answering::answer_as, crate::proofs::Answering::sample4_told), unfolding(rules::specs::Answers::sample4_alpha_answer))]
 pub fn sample4_alpha(
     kind: u32,
