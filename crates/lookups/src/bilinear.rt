@@ -1,8 +1,8 @@
 // The bilinear lookup of four lanes, at a level of their picture.
-ghost use Rattle.std.specs.Prelude.{◌≡◌, IfOk};
+ghost use Rattle.std.specs.Prelude.{◌≡◌};
 ghost use Rattle.rules.specs.Kinds.{code_of};
 ghost use Rattle.rules.specs.Refusals.{◌or_else◌, sampler_refusal, level_refusal, coordinates_refusal, faces_refusal};
-ghost use Rattle.rules.specs.Answers.{done, told, bilinear_rgb_answer, bilinear_alpha_answer};
+ghost use Rattle.rules.specs.Answers.{answer, refused, told, bilinear_rgb_answer, bilinear_alpha_answer};
 ghost use Rattle.places.specs.Samplers.{wrapping_of};
 
 use choice::lanes::{all, each};
@@ -28,7 +28,7 @@ fn check_faces(picture: Picture, faces: Wholes) -> Result<(), Refusal>
     }
 }
 
-// What stands behind the 8 of a bilinear lookup, the modes of its sampler, and its coordinates: 4, 6, 5.
+// What stands behind the 8 of a bilinear lookup, and the modes of its sampler: 4, 6, 5.
 #[tactic(auto, using(rules::proofs::Answering::answer_or, rules::proofs::Answering::answer_as), unfolding(rules::specs::Refusals::sampler_refusal))]
 fn check_blend(
     picture: Picture,
@@ -36,14 +36,13 @@ fn check_blend(
     u: Lanes,
     v: Lanes,
     level: u32,
-) -> Result<(Wrapping, Coordinates, Coordinates), Refusal>
-    ensures told { done result ≡ told (sampler_refusal sampler or_else level_refusal picture.width picture.height level or_else coordinates_refusal u v) }
-    ensures are { IfOk result (λ taken. (taken.0 ≡ wrapping_of sampler) × (taken.1.lanes ≡ u) × (taken.2.lanes ≡ v)) }
+) -> Result<Wrapping, Refusal>
+    ensures { result ≡ answer (sampler_refusal sampler or_else level_refusal picture.width picture.height level or_else coordinates_refusal u v) refused (Ok (wrapping_of sampler)) }
 {
     let by = Wrapping::try_from(sampler)?;
     picture.check_level(level)?;
-    let (u, v) = check_coordinates(u, v)?;
-    Ok((by, u, v))
+    check_coordinates(u, v)?;
+    Ok(by)
 }
 
 // The colours of four lanes at a level, each on its own face, blended from the four texels around the coordinate: 1, 2, 3, 8, 4, 6, 5.
@@ -64,7 +63,9 @@ pub fn sample_bilinear_rgb(
     let picture = Picture::new(kind, width, height)?;
     let layout = Layout::new(picture, texels.len())?;
     check_faces(picture, faces)?;
-    let (by, u, v) = check_blend(picture, sampler, u, v, level)?;
+    let by = check_blend(picture, sampler, u, v, level)?;
+    let u = Coordinates { lanes: u };
+    let v = Coordinates { lanes: v };
     let at = squares(level_at(&layout, level), faces, by, u, v);
     Ok(squares_rgb(texels, at))
 }
@@ -87,7 +88,9 @@ pub fn sample_bilinear_alpha(
     let picture = Picture::new(kind, width, height)?;
     let layout = Layout::new(picture, texels.len())?;
     picture.check_no_cubemap()?;
-    let (by, u, v) = check_blend(picture, sampler, u, v, level)?;
+    let by = check_blend(picture, sampler, u, v, level)?;
+    let u = Coordinates { lanes: u };
+    let v = Coordinates { lanes: v };
     let at = squares(level_at(&layout, level), first_faces(), by, u, v);
     Ok(squares_alpha(texels, at))
 }

@@ -12,6 +12,7 @@ use lane::nearest::nearest_places;
 use lane::pixel::{opacity_four, rgb_four};
 use levels::layout::Layout;
 use levels::picture::Picture;
+use places::coordinate::Coordinates;
 use places::refusals::{check_coordinates, check_finite};
 use places::side::Side;
 use places::wrap::Wrapping;
@@ -32,7 +33,7 @@ fn sample4_places(
     let layout = Layout::new(picture, texels.len())?;
     picture.check_no_cubemap()?;
     let by = Wrapping::try_from(sampler)?;
-    let (u, v) = check_coordinates(u, v)?;
+    check_coordinates(u, v)?;
     check_finite(steps)?;
     let width = Side {
         texels: picture.width,
@@ -41,6 +42,8 @@ fn sample4_places(
         texels: picture.height,
     };
     let level = mip_level_of(width, height, steps);
+    let u = Coordinates { lanes: u };
+    let v = Coordinates { lanes: v };
     Ok(nearest_places(level_at(&layout, level), by, u, v))
 }
 

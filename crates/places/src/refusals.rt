@@ -1,12 +1,12 @@
 // The refusals of four lanes: one bad lane refuses all four.
-ghost use Rattle.std.specs.Prelude.{◌≡◌, IfOk};
+ghost use Rattle.std.specs.Prelude.{◌≡◌};
 ghost use Rattle.std.specs.Float.Ieee.Scale.{finite};
 ghost use Rattle.rules.specs.Lanes.{in_lanes, in_directions};
 ghost use Rattle.rules.specs.Faces.{direction_taken};
 ghost use Rattle.rules.specs.Refusals.{coordinate_taken, coordinates_refusal, finite_refusal, directions_refusal};
-ghost use Rattle.rules.specs.Answers.{done, told};
+ghost use Rattle.rules.specs.Answers.{told};
 
-use crate::coordinate::{Coordinates, coordinate_taken};
+use crate::coordinate::coordinate_taken;
 use crate::face::direction_taken;
 use choice::lanes::{all, each, pairs};
 use rules::{Directions, Lanes, Refusal};
@@ -20,13 +20,13 @@ fn coordinates_taken(u: Lanes) -> bool
 }
 
 // 5: a coordinate is not finite, or its magnitude is above 2,048.
+// `Coordinates` are made by who calls: handed out, bilinear alpha, at 1.54 to 1.62 of the source (bar 1.6), takes 3.4 % more instructions.
 #[tactic(auto, unfolding(rules::specs::Refusals::coordinates_refusal, rules::specs::Refusals::refusal_of, rules::specs::Answers::answer))]
-pub fn check_coordinates(u: Lanes, v: Lanes) -> Result<(Coordinates, Coordinates), Refusal>
-    ensures told { done result ≡ told (coordinates_refusal u v) }
-    ensures are { IfOk result (λ taken. (taken.0.lanes ≡ u) × (taken.1.lanes ≡ v)) }
+pub fn check_coordinates(u: Lanes, v: Lanes) -> Result<(), Refusal>
+    ensures { result ≡ told (coordinates_refusal u v) }
 {
     if coordinates_taken(u) & coordinates_taken(v) {
-        Ok((Coordinates { lanes: u }, Coordinates { lanes: v }))
+        Ok(())
     } else {
         Err(Refusal::NumberOutside)
     }

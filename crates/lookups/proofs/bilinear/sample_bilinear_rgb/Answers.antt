@@ -6,8 +6,9 @@ use Rattle.rules.specs.Places.{plane_of}
 use Rattle.rules.specs.Refusals.{chain_refusal, bilinear_rgb_refusal}
 use Rattle.rules.proofs.Refusing.{or_else-taken}
 use Rattle.rules.proofs.RefusingLookups.{BilinearRgb, bilinear-rgb-facts}
-use Rattle.rules.proofs.Answering.{told_none}
+use Rattle.rules.proofs.Answering.{told_none, given_none, given_is}
 use Rattle.lane.specs.Reading.{AllWithin, blended_rgb}
+use Rattle.places.specs.Samplers.{wrapping_of}
 use Rattle.lookups.proofs.Answering.{faces-below, level-faces, level-squares, bilinear-rgb-read}
 use Rattle.lookups.proofs.bilinear.sample_bilinear_rgb.Goals as goal
 use Rattle.lookups.proofs.bilinear.sample_bilinear_rgb.Goals.{After-level_at, In_ok-by}
@@ -20,42 +21,45 @@ none c =
     let is = given.is in
     let room = told_none _ (sym c.in_ok-layout.ensures.told) in
     let face = told_none _ (sym c.in_ok-check_faces.ensures) in
-    let rest = told_none _ (sym c.in_ok-by.ensures.told) in
+    let rest = given_none _ _ _ (sym c.in_ok-by.ensures) in
     or_else-taken _ _ (or_else-taken _ _ (told_none _ (sym given.told)) (rw (is.0, is.1, is.2) at room)) (or_else-taken _ _ (rw is.0 at face) (rw (is.1, is.2) at rest))
 
 facts : (c : goal.In_ok-by) → let a = c.args in BilinearRgb a.kind a.width a.height (length a.texels.now) a.sampler a.u a.v a.level a.faces
 facts c = bilinear-rgb-facts _ _ _ _ _ _ _ _ _ (none c)
 
--- the level
-at : (c : goal.After-level_at) → let a = c.args in c.level_at.result.plane ≡ plane_of a.kind a.width a.height a.level
-at c = let is = c.in_ok-picture.ensures.is in c.level_at.ensures ∙ rw (c.in_ok-layout.ensures.is, is.0, is.1, is.2)
+-- the level and the modes
+at : (c : goal.After-level_at) → let a = c.args in (c.level_at.result.plane ≡ plane_of a.kind a.width a.height a.level) × (c.in_ok-by.by ≡ wrapping_of a.sampler)
+at c = let is = c.in_ok-picture.ensures.is in (c.level_at.ensures ∙ rw (c.in_ok-layout.ensures.is, is.0, is.1, is.2), given_is _ _ _ (sym c.in_ok-by.ensures))
 
 pub level_at-requires : goal.level_at-requires
 level_at-requires c =
     let is = c.in_ok-picture.ensures.is in
     rw (c.in_ok-layout.ensures.is, is.1, is.2) (facts (goal.at.level_at-requires c).In_ok-by).blended.below
 
+pub invariant_of-u : goal.invariant_of-u
+invariant_of-u c = record { taken = (facts (goal.at.invariant_of-u c).In_ok-by).blended.coordinates.along-u }
+
+pub invariant_of-v : goal.invariant_of-v
+invariant_of-v c = record { taken = (facts (goal.at.invariant_of-v c).In_ok-by).blended.coordinates.along-v }
+
 pub squares-at-requires : goal.squares-at-requires
 squares-at-requires c =
     let a = c.args in
     let f = facts (goal.at.squares-at-requires c).In_ok-by in
-    let are = c.in_ok-by.ensures.are in
     let e = at (goal.at.squares-at-requires c).After-level_at in
-    level-faces a.kind a.width a.height a.texels.now a.sampler a.u a.v a.level e are.0 _ (faces-below _ _ f.faces)
+    level-faces a.kind a.width a.height a.texels.now a.sampler a.u a.v a.level e.0 e.1 _ (faces-below _ _ f.faces)
 
 pub squares_rgb-requires : goal.squares_rgb-requires
 squares_rgb-requires c =
     let a = c.args in
     let f = facts (goal.at.squares_rgb-requires c).In_ok-by in
-    let are = c.in_ok-by.ensures.are in
     let e = at (goal.at.squares_rgb-requires c).After-level_at in
-    subst (AllWithin _) (sym (rw (are.1, are.2) at c.squares-at.ensures)) (level-squares a.kind a.width a.height _ a.sampler a.u a.v a.level e are.0 _ (faces-below _ _ f.faces) f.chained f.blended.below)
+    subst (AllWithin _) (sym c.squares-at.ensures) (level-squares a.kind a.width a.height _ a.sampler a.u a.v a.level e.0 e.1 _ (faces-below _ _ f.faces) f.chained f.blended.below)
 
 pub returns : goal.returns
 returns c =
     let a = c.args in
-    let are = c.in_ok-by.ensures.are in
     let e = at (goal.at.returns c).After-level_at in
     record {
-      answer = ap Ok (c.squares_rgb.ensures ∙ ap (blended_rgb _) (rw (are.1, are.2) at c.squares-at.ensures)) ∙ sym (bilinear-rgb-read a.kind a.width a.height _ a.sampler a.u a.v a.level e are.0 _ (none (goal.at.returns c).In_ok-by));
+      answer = ap Ok (c.squares_rgb.ensures ∙ ap (blended_rgb _) c.squares-at.ensures) ∙ sym (bilinear-rgb-read a.kind a.width a.height _ a.sampler a.u a.v a.level e.0 e.1 _ (none (goal.at.returns c).In_ok-by));
     }

@@ -5,6 +5,7 @@ use Rattle.rules.specs.Kinds.{faces_of, code_of}
 use Rattle.rules.specs.Sizes.{count}
 use Rattle.rules.specs.Refusals.{◌or_else◌, buffer_refusal, no_cubemap_refusal, sampler_refusal, coordinates_refusal, finite_refusal}
 use Rattle.rules.proofs.Refusing.{or_else-taken, answer-given}
+use Rattle.rules.proofs.RefusingLookups.{coordinates-facts}
 use Rattle.rules.proofs.Answering.{told_none, given_none, given_is}
 use Rattle.rules.proofs.Inside.{mip-below}
 use Rattle.places.specs.Samplers.{wrapping_of}
@@ -19,7 +20,7 @@ none c =
     or_else-taken _ _ (told_none _ (sym c.in_ok-layout.ensures.told))
     (or_else-taken _ _ (told_none _ (sym c.in_ok-check_no_cubemap.ensures))
     (or_else-taken _ _ (given_none _ _ _ (sym c.in_ok-by.ensures))
-    (or_else-taken _ _ (told_none _ (sym c.in_ok-u.ensures.told)) (told_none _ (sym c.in_ok-check_finite.ensures)))))
+    (or_else-taken _ _ (told_none _ (sym c.in_ok-check_coordinates.ensures)) (told_none _ (sym c.in_ok-check_finite.ensures)))))
 
 pub invariant_of-width : goal.invariant_of-width
 invariant_of-width c = let s = c.args.picture.sides in record { is = (s.some-w, s.most-w) }
@@ -30,10 +31,15 @@ invariant_of-height c = let s = c.args.picture.sides in record { is = (s.some-h,
 pub level_at-requires : goal.level_at-requires
 level_at-requires c = rw (c.in_ok-layout.ensures.is, c.mip_level_of-level.ensures) (mip-below _ _ _)
 
+pub invariant_of-u : goal.invariant_of-u
+invariant_of-u c = record { taken = (coordinates-facts _ _ (told_none _ (sym c.in_ok-check_coordinates.ensures))).along-u }
+
+pub invariant_of-v : goal.invariant_of-v
+invariant_of-v c = record { taken = (coordinates-facts _ _ (told_none _ (sym c.in_ok-check_coordinates.ensures))).along-v }
+
 pub returns : goal.returns
 unfolding sample4_four wrapping_of
 returns c =
     let by = given_is _ _ _ (sym c.in_ok-by.ensures) in
-    let are = c.in_ok-u.ensures.are in
-    rw (c.nearest_places.ensures, c.level_at.ensures, c.mip_level_of-level.ensures, c.in_ok-layout.ensures.is, by, are.0, are.1)
+    rw (c.nearest_places.ensures, c.level_at.ensures, c.mip_level_of-level.ensures, c.in_ok-layout.ensures.is, by)
     (sym (answer-given _ _ _ (none (goal.at.returns c).In_ok-check_finite)))
