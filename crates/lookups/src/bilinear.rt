@@ -12,6 +12,7 @@ use lane::level::level_at;
 use lane::reading::first_faces;
 use levels::layout::Layout;
 use levels::picture::Picture;
+use places::coordinate::Coordinates;
 use places::refusals::check_coordinates;
 use places::wrap::Wrapping;
 use rules::{Directions, Lanes, Refusal, Sampler, Wholes};
@@ -26,13 +27,12 @@ fn layout_of(kind: u32, width: u32, height: u32, n: usize) -> Result<Layout, Ref
     Layout::new(picture, n)
 }
 
-// 8: one of four faces above 5 for a cubemap, or not 0 for another kind.
+// 8: one of four faces that the picture has not.
 #[tactic(auto, unfolding(rules::specs::Refusals::faces_refusal, rules::specs::Refusals::refusal_of, rules::specs::Lanes::in_lanes, rules::specs::Answers::answer))]
 fn check_faces(picture: Picture, faces: Wholes) -> Result<(), Refusal>
     ensures { result ≡ told (faces_refusal (code_of picture.kind) faces) }
 {
-    let n = picture.kind.faces();
-    if all(each(faces, |face| (face as usize) < n)) {
+    if all(each(faces, |face| picture.has_face(face))) {
         Ok(())
     } else {
         Err(Refusal::KindNotTaken)
@@ -74,11 +74,14 @@ pub fn sample_bilinear_rgb(
     let layout = layout_of(kind, width, height, texels.len())?;
     check_faces(layout.picture, faces)?;
     let by = check_blend(layout.picture, sampler, u, v, level)?;
+    let u = Coordinates { lanes: u };
+    let v = Coordinates { lanes: v };
     let at = squares(level_at(&layout, level), faces, by, u, v);
     Ok(squares_rgb(texels, at))
 }
 
 // The alphas of four lanes at a level, blended from the four texels around the coordinate: 1, 2, 3, 8, 4, 6, 5.
+// Apart from `sample_bilinear_rgb`, since C names both and an alpha has no faces; what they share is `check_blend` and `squares`.
 #[tactic(auto, using(rules::proofs::Answering::answer_or, rules::proofs::Answering::answer_as), unfolding(rules::specs::Refusals::bilinear_alpha_refusal, rules::specs::Answers::bilinear_alpha_answer))]
 pub fn sample_bilinear_alpha(
     kind: u32,
@@ -95,6 +98,8 @@ pub fn sample_bilinear_alpha(
     let layout = layout_of(kind, width, height, texels.len())?;
     layout.picture.check_no_cubemap()?;
     let by = check_blend(layout.picture, sampler, u, v, level)?;
+    let u = Coordinates { lanes: u };
+    let v = Coordinates { lanes: v };
     let at = squares(level_at(&layout, level), first_faces(), by, u, v);
     Ok(squares_alpha(texels, at))
 }

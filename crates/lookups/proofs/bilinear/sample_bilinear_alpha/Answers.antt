@@ -41,12 +41,18 @@ level_at-requires c =
     let is = c.in_ok-layout.ensures.is in
     rw (is.1, is.2) (facts (goal.at.level_at-requires c).In_ok-by).blended.below
 
+pub invariant_of-u : goal.invariant_of-u
+invariant_of-u c = record { taken = (facts (goal.at.invariant_of-u c).In_ok-by).blended.coordinates.along-u }
+
+pub invariant_of-v : goal.invariant_of-v
+invariant_of-v c = record { taken = (facts (goal.at.invariant_of-v c).In_ok-by).blended.coordinates.along-v }
+
 pub squares-at-requires : goal.squares-at-requires
 squares-at-requires c =
     let a = c.args in
     let f = facts (goal.at.squares-at-requires c).In_ok-by in
     let e = at (goal.at.squares-at-requires c).After-level_at in
-    (level-faces a.kind a.width a.height a.texels.now a.sampler a.u a.v a.level e.0 e.1 _ (below (goal.at.squares-at-requires c).After-first_faces), f.blended.coordinates)
+    level-faces a.kind a.width a.height a.texels.now a.sampler a.u a.v a.level e.0 e.1 _ (below (goal.at.squares-at-requires c).After-first_faces)
 
 pub squares_alpha-requires : goal.squares_alpha-requires
 squares_alpha-requires c =
