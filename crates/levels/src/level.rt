@@ -47,10 +47,11 @@ impl PictureLevel {
     }
 
     // How many texels it has.
+    #[tactic(auto, unfolding(rules::specs::Sizes::size_at))]
     fn size(self) -> usize
         ensures { result ≡ size_at (faces_of (code_of self.picture.kind)) self.picture.width self.picture.height self.number }
     {
-        self.picture.kind.faces() * (self.height() as usize) * (self.width() as usize)
+        self.shape().size()
     }
 
     // Where it starts: levels follow each other without gaps.

@@ -57,7 +57,7 @@ impl Picture {
     pub fn level0(self) -> usize
         ensures { result ≡ faces_of (code_of self.kind) * self.height * self.width }
     {
-        self.kind.faces() * (self.height as usize) * (self.width as usize)
+        self.shape().size()
     }
 
     // The whole chain's texels.
