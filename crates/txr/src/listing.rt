@@ -6,8 +6,9 @@ ghost use Rattle.rules.specs.Answers.{answer, refused};
 ghost use Rattle.txr.specs.File.{file_refusal};
 ghost use Rattle.txr.specs.Listing.{level_line, level_lines, file_lines, listing_of};
 
-use crate::file::{load, picture_in};
+use crate::file::file_in;
 use crate::page::Page;
+use levels::bytes::put_bytes;
 use levels::chain::generate_mipmaps;
 use levels::lent::Chain;
 use levels::level::PictureLevel;
@@ -45,14 +46,15 @@ fn level_lines(chain: Chain) -> Page
 fn list_levels(input: &[u8]) -> Result<Page, Refusal>
     ensures { result ≡ answer (file_refusal input.now) refused (Ok (file_lines input.now)) }
 {
-    let picture = picture_in(input)?;
+    let file = file_in(input)?;
+    let picture = file.picture;
     let Picture {
         kind,
         width,
         height,
     } = picture;
     let mut texels = [0u32; 16384];
-    load(input, &mut texels[..picture.level0()]);
+    put_bytes(file.texels, &mut texels[..picture.level0()]);
     generate_mipmaps(kind.code(), width, height, 0, &mut texels)?;
     Ok(level_lines(Chain {
         picture,
@@ -62,7 +64,7 @@ fn list_levels(input: &[u8]) -> Result<Page, Refusal>
 
 // What the listing program writes for what it read.
 #[tactic(auto, using(crate::proofs::Listings::listed))]
-fn listing(input: &[u8]) -> Page
+pub fn listing(input: &[u8]) -> Page
     ensures { result ≡ listing_of input.now }
 {
     match list_levels(input) {

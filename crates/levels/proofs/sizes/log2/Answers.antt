@@ -1,6 +1,6 @@
 -- `levels::sizes::log2` meets its contract: setting the lowest digit of n leaves floor(log2 n), and gives a number above 0.
 use mathlib.Core.Path.{◌≡◌, sym, ◌∙◌}
-use Prim.Native.Nat.{ℕ, ◌+◌, ◌*◌, ◌/◌, ◌<◌}
+use Prim.Native.Nat.{ℕ, ◌+◌, ◌*◌, ◌/◌}
 use native.Mathlib.Decide.{dec_le}
 use native.Mathlib.Omega.{arith}
 use lib.Bits.{bit_or, or_step, or_zero_r}
