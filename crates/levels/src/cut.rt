@@ -34,6 +34,7 @@ fn along(order: u32, side: u32, corner: u32, part: u32) -> bool
     multiple(order, corner) && multiple(order, part)
 }
 
+// Order, corner and sides are three of the call's own arguments, taken as they come: a type of them would be made for this test alone.
 // 11: cut order above 12, a side 0, corner or side not a multiple of 2^order, or not wholly inside.
 fn check_place(order: u32, picture: Picture, corner: Pair, sides: Pair) -> Result<(), Refusal>
     ensures { result ≡ told (cut_refusal order picture.width picture.height corner sides) }
@@ -68,6 +69,7 @@ fn check_cut(
 
 // Writes the cut's rows one after the other. The source's level 0 is w wide. By place: of `chunks_exact_mut` the library tells the length
 // alone.
+#[tactic(auto, using(crate::proofs::Cuts::cut_reads))]
 fn write_cut(w: usize, corner: Pair, sides: Pair, source: &[u32], target: &mut [u32])
     requires across { corner.x + sides.x ≤ w }
     requires source_room { (corner.y + sides.y) * w ≤ length source.now }

@@ -15,7 +15,7 @@ use levels::level::PictureLevel;
 use levels::picture::Picture;
 use rules::Refusal;
 
-// The line of level m.
+// The line of level m. A number, and no `PictureLevel`: that carries a picture of its own, and this would ask that it is the chain's.
 #[tactic(auto, using(crate::proofs::Listings::levels_within), unfolding(crate::specs::Listing::level_line))]
 fn level_line(chain: Chain, m: u32, page: &mut Page)
     requires level { m ≤ top chain.picture.width chain.picture.height }
