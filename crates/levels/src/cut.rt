@@ -21,17 +21,15 @@ fn multiple(order: u32, n: u32) -> bool
 }
 
 // Along one side of the picture: the cut's side is not 0, corner and side are multiples of 2^order, and it lies inside.
+#[tactic(auto, unfolding(crate::specs::Cuts::along))]
 fn along(order: u32, side: u32, corner: u32, part: u32) -> bool
     requires { order ≤ 12 }
     ensures { result ≡ along order side corner part }
 {
-    if part == 0 {
-        return false;
-    }
-    if (side as usize) < (corner as usize) + (part as usize) {
-        return false;
-    }
-    multiple(order, corner) && multiple(order, part)
+    part != 0
+        && (corner as usize) + (part as usize) <= (side as usize)
+        && multiple(order, corner)
+        && multiple(order, part)
 }
 
 // Order, corner and sides are three of the call's own arguments, taken as they come: a type of them would be made for this test alone.

@@ -38,6 +38,7 @@ impl Layout {
 
     // A level: where it starts, and its faces and their sides.
     // A number, and no `PictureLevel`: that carries a picture of its own, and this would ask that it is the layout's.
+    #[tactic(auto, unfolding(rules::specs::Places::plane_of))]
     pub fn plane(&self, level: u32) -> Plane
         requires { level ≤ top self.now.picture.width self.now.picture.height }
         ensures { result ≡ plane_of (code_of self.now.picture.kind) self.now.picture.width self.now.picture.height level }

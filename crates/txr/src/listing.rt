@@ -31,6 +31,7 @@ fn level_line(chain: Chain, m: u32, page: &mut Page)
 }
 
 // One line a level.
+#[tactic(auto, unfolding(crate::specs::Listing::level_lines))]
 fn level_lines(chain: Chain) -> Page
     ensures { result ≡ level_lines (code_of chain.entry.picture.kind) chain.entry.picture.width chain.entry.picture.height chain.entry.texels.now (suc (top chain.entry.picture.width chain.entry.picture.height)) }
 {
