@@ -10,6 +10,7 @@ use crate::lent::{Chain, Lent, lent_chain};
 use crate::level::PictureLevel;
 use crate::picture::Picture;
 use reduce::by_kind::check_next;
+use reduce::shape::Followed;
 use rules::{Packing, Refusal};
 
 impl Chain<'_> {
@@ -30,11 +31,12 @@ impl Chain<'_> {
             picture,
             number: level,
         };
-        let from = before.start();
         let start = at.start();
-        let end = at.end();
-        let place = start + check_next(picture.kind, packing, before.shape(), &self.texels[from..]);
-        if place < end { Some(place) } else { None }
+        let pair = Followed {
+            shape: before.shape(),
+            texels: &self.texels[before.start()..],
+        };
+        check_next(picture.kind, packing, pair).map(|wrong| start + wrong)
     }
 
     // The whole chain's: the first of its levels' verdicts.
