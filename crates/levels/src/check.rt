@@ -36,7 +36,8 @@ impl Chain<'_> {
             shape: before.shape(),
             texels: &self.texels[before.start()..],
         };
-        check_next(picture.kind, packing, pair).map(|wrong| start + wrong)
+        let wrong = check_next(picture.kind, packing, pair)?;
+        Some(start + wrong)
     }
 
     // The whole chain's: the first of its levels' verdicts.

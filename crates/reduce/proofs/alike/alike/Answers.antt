@@ -1,5 +1,4 @@
 -- `reduce::alike::alike` meets its contract: what `position` finds of the pairs.
-use mathlib.Core.Path.{◌≡◌}
 use Rattle.std.proofs.Common.{rules, tests}
 use Rattle.std.proofs.lemmas.Iterator.{YieldsList-from_slice, YieldsList-from_zip, IsFirst-from_position}
 use Rattle.reduce.proofs.Standing.{Alike, Unlike, first-unlike}
