@@ -11,7 +11,7 @@ use crate::rule::Reduce;
 #[derive(Clone, Copy)]
 pub struct Rounded;
 
-// Two channels 16 bits apart, the upper in the upper half: green and alpha of a texel, and of its 256th part red and blue.
+// Two channels that lie 16 bits apart, one in each half: green and alpha of a texel, red and blue of a texel divided by 256.
 fn halves(t: u32) -> u32
     ensures { result ≡ t / 65536 % 256 * 65536 + t % 256 }
 {

@@ -17,6 +17,7 @@ use kinds::srgb::Srgb;
 use rules::{Kind, Packing};
 
 // SRGB's tables stand in this function's frame, which no other kind enters.
+// `room` here and in `fill` is of a `&mut` slice that is handed on: a value that held it would have to be taken apart at each step.
 #[inline(never)]
 fn fill_srgb(packing: Packing, shape: Shape, left: usize, s: &mut [u32])
     requires room { (1 ≤ left) × (start shape.faces shape.width shape.height left ≤ length s.old) }
