@@ -27,17 +27,12 @@ impl Chain<'_> {
             picture,
             number: level - 1,
         };
-        let at = PictureLevel {
-            picture,
-            number: level,
-        };
-        let start = at.start();
         let pair = Followed {
             shape: before.shape(),
             texels: &self.texels[before.start()..],
         };
         let wrong = check_next(picture.kind, packing, pair)?;
-        Some(start + wrong)
+        Some(before.end() + wrong)
     }
 
     // The whole chain's: the first of its levels' verdicts.

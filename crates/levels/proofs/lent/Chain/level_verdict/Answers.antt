@@ -1,7 +1,8 @@
 -- `levels::lent::Chain::level_verdict` meets its contract: level 0 follows, and any other is judged behind the level before it.
 use mathlib.Core.Path.{◌≡◌, refl, ◌∙◌}
-use Prim.Native.Nat.{◌+◌, ◌≤◌}
+use Prim.Native.Nat.{ℕ, ◌+◌, ◌-◌, ◌≤◌}
 use native.Mathlib.Omega.{arith}
+use Rattle.rules.specs.Sizes.{start}
 use borrow.Author.Rules.{part_to_end}
 use lib.ListN.{length, length-drop}
 use Rattle.std.specs.Option.{option_map}
@@ -47,18 +48,22 @@ invariant_of-pair c =
           (omega (arith, k.starts, k.ends, k.inside));
     }
 
+-- a level ends where the next starts
+back : (level : ℕ) → 1 ≤ level → level - 1 + 1 ≡ level
+back level some = omega arith
+
 -- the first wrong texel lies in the level
 pub overflow_add-result : goal.overflow_add-result
 overflow_add-result c =
     let k = known (goal.at.overflow_add-result c).Else-level-lt1 in
     let s = c.shape.ensures in
     let few = rw (c.in_ok-wrong.was, s.0, s.1, s.2) at c.check_next.ensures.inside in
-    rw c.start-start.ensures (omega (arith, few, k.ends, k.inside))
+    rw (c.end.ensures, back c.args.level (omega arith)) (omega (arith, few, k.ends, k.inside))
 
 -- what was found there, as the definition says it
 found : (c : goal.After-check_next)
     → let p = c.args.self.picture in
-    option_map (λ k. c.start-start.result + k) c.check_next.result ≡ level_verdict_of (code_of p.kind) c.args.packing p.width p.height c.args.self.texels.now c.args.level
+    option_map (λ k. start (faces_of (code_of p.kind)) p.width p.height c.args.level + k) c.check_next.result ≡ level_verdict_of (code_of p.kind) c.args.packing p.width p.height c.args.self.texels.now c.args.level
 unfolding level_verdict_of
 found c =
     let a = c.args in
@@ -66,12 +71,11 @@ found c =
     let K = code_of p.kind in
     let before = c.start in
     let s = c.shape.ensures in
-    rw c.start-start.ensures
-    (judged (reduce_of K a.packing) (faces_of K) p.width p.height a.level a.self.texels.now c.check_next.result (omega arith) (known (goal.at.After-check_next c).Else-level-lt1)
-    (rw (part_to_end a.self.texels.now before.result, before.ensures, s.0, s.1, s.2) at c.check_next.ensures))
+    judged (reduce_of K a.packing) (faces_of K) p.width p.height a.level a.self.texels.now c.check_next.result (omega arith) (known (goal.at.After-check_next c).Else-level-lt1)
+    (rw (part_to_end a.self.texels.now before.result, before.ensures, s.0, s.1, s.2) at c.check_next.ensures)
 
 pub returns-in_err-wrong : goal.returns-in_err-wrong
 returns-in_err-wrong c = c.from_residual.ensures ∙ rw c.in_err-wrong.was at (found (goal.at.returns-in_err-wrong c).After-check_next)
 
 pub returns : goal.returns
-returns c = rw c.in_ok-wrong.was at (found (goal.at.returns c).After-check_next)
+returns c = rw (c.end.ensures, back c.args.level (omega arith)) (rw c.in_ok-wrong.was at (found (goal.at.returns c).After-check_next))
