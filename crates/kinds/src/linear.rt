@@ -24,6 +24,7 @@ impl Reduce for Linear {
     ghost rule = { λ it. linear_of it.packing };
 
     #[inline(always)]
+    #[tactic(auto, unfolding(rules::specs::Reducing::linear_of))]
     fn reduced(&self, q: Quad<u32>) -> u32 {
         each(|p| byte(self.packing, p), q)
     }

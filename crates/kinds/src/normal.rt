@@ -32,6 +32,7 @@ impl Reduce for Normal {
     ghost rule = { λ it. normal_of it.packing };
 
     #[inline(always)]
+    #[tactic(auto, unfolding(rules::specs::Reducing::normal_of))]
     fn reduced(&self, q: Quad<u32>) -> u32 {
         each(|p| byte(self.packing, p), q)
     }

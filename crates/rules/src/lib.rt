@@ -97,7 +97,8 @@ pub enum Packing {
     Nearest,
 }
 
-// A level within a chain: where it starts, and its faces and their sides.
+// A level within a chain: where it starts, and its faces and their sides. Flat, as `place_of` has it; `Shape` of reduce has the sides with what
+// holds of them.
 #[derive(Clone, Copy)]
 pub struct Plane {
     pub start: usize,
