@@ -16,7 +16,7 @@ pub struct Quad<T> {
 }
 
 impl<T: Copy> Quad<T> {
-    // The same worked out of each. Beside `choice::lanes::each`, on which this crate does not stand: that one is of lanes, and asks less of f.
+    // The same worked out of each. Beside `choice::lanes::each`, which is of lanes: this crate does not stand on that one.
     pub fn map<U, F: Fn(T) -> U>(self, f: F) -> Quad<U>
         requires { F.IsAlwaysCallable f }
         ensures { Each (F.post f) self result }
