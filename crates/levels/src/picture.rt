@@ -57,7 +57,7 @@ impl Picture {
     pub fn level0(self) -> usize
         ensures { result ≡ faces_of (code_of self.kind) * self.height * self.width }
     {
-        self.kind.faces() * (self.height as usize) * (self.width as usize)
+        self.shape().size()
     }
 
     // The whole chain's texels.
@@ -86,7 +86,7 @@ impl Picture {
         }
     }
 
-    // 8: a cubemap, to a call that does not take it.
+    // 8: a cubemap, to a call that does not take it. Beside `check_cubemap`: two refusals of document 01 with one number.
     #[tactic(auto, unfolding(rules::specs::Refusals::no_cubemap_refusal, rules::specs::Refusals::refusal_of, rules::specs::Answers::answer))]
     pub fn check_no_cubemap(self) -> Result<(), Refusal>
         ensures { result ≡ told (no_cubemap_refusal (code_of self.kind)) }
