@@ -81,7 +81,7 @@ pub fn sample_bilinear_rgb(
 }
 
 // The alphas of four lanes at a level, blended from the four texels around the coordinate: 1, 2, 3, 8, 4, 6, 5.
-// Apart from `sample_bilinear_rgb`, since C names both and an alpha has no faces; what they share is `check_blend` and `squares`.
+// Apart from `sample_bilinear_rgb`, since C names both and this one takes no faces; what they share is `check_blend` and `squares`.
 #[tactic(auto, using(rules::proofs::Answering::answer_or, rules::proofs::Answering::answer_as), unfolding(rules::specs::Refusals::bilinear_alpha_refusal, rules::specs::Answers::bilinear_alpha_answer))]
 pub fn sample_bilinear_alpha(
     kind: u32,

@@ -60,6 +60,7 @@ fn rest(t: f32, n: f32) -> f32
 }
 
 // The remainder of t by d.
+// Apart, number and side: in one value, bilinear alpha, 1.54 to 1.62 of the source where 1.6 is the bar, takes 19 % more instructions.
 fn repeated(t: f32, d: Side) -> u32
     requires { Counted t d.texels }
     ensures { result ≡ wrap_of Repeat (floor_of t) d.texels }

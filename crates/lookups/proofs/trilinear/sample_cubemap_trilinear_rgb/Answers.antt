@@ -9,7 +9,7 @@ use Rattle.lane.specs.Reading.{Inside}
 use Rattle.lane.proofs.Holding.{cubes-inside}
 use Rattle.lookups.proofs.Answering.{cube-chained, trilinear-made}
 use Rattle.lookups.proofs.trilinear.sample_cubemap_trilinear_rgb.Goals as goal
-use Rattle.lookups.proofs.trilinear.sample_cubemap_trilinear_rgb.Goals.{In_ok-check_finite, After-level_places-at}
+use Rattle.lookups.proofs.trilinear.sample_cubemap_trilinear_rgb.Goals.{In_ok-check_finite}
 
 -- past the refusals
 none : (c : goal.In_ok-check_finite) → let a = c.args in cubemap_refusal a.kind a.width a.height (length a.texels.now) a.directions ≡ 0
