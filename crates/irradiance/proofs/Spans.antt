@@ -46,9 +46,9 @@ unfolding centre_of
 centre-in side x h l = spread-in (div binary32 (add binary32 (float x) half32) (float side)) (part_in x side h l)
 
 -- ---- 1 + u*u + v*v
-pub distance-in : (u v : Float) → Between minus1 u one32 → Between minus1 v one32 → Between one32 (distance_of u v) three32
+pub distance_in : (u v : Float) → Between minus1 u one32 → Between minus1 v one32 → Between one32 (distance_of u v) three32
 unfolding distance_of of_bits add le
-distance-in u v p q =
+distance_in u v p q =
     in-add binary32 one32 (add binary32 one32 (square_of u)) two32 zero32 (square_of v) one32 tt tt tt tt
     (in-add binary32 one32 one32 one32 zero32 (square_of u) one32 tt tt tt tt (record { low = tt; high = tt }) (square-in u p))
     (square-in v q)

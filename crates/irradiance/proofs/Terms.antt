@@ -18,7 +18,7 @@ use Rattle.rules.proofs.Refusing.{Sides}
 use Rattle.texel.proofs.Magnitudes.{Within, within-self, wider, within-neg, within_wider, within-mul, within-div, in-mul-from}
 use Rattle.texel.proofs.RootRule.{root-from-one}
 use Rattle.texel.proofs.Inverse.{curve-in}
-use Rattle.irradiance.proofs.Spans.{centre-in, distance-in}
+use Rattle.irradiance.proofs.Spans.{centre-in, distance_in}
 use Rattle.irradiance.proofs.Each.{Along, OnBasis, EachOf}
 
 -- ---- the texel's size, and its weight
@@ -100,7 +100,7 @@ place-within w h f x y s p q =
     let a = centre-in w x p s.most-w in
     let b = centre-in h y q s.most-h in
     let d = distance_of u v in
-    let r = distance-in u v a b in
+    let r = distance_in u v a b in
     basis-within (divided_by (sqrt_of d) (towards f u v)) (weight_of (omega_of w h) d)
     (divided-within (sqrt_of d) (towards f u v) (root-in-two d r) (towards-within f u v a b)) (weight-within (omega_of w h) d (omega-within w h s) r)
 

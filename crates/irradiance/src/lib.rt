@@ -1,6 +1,7 @@
 // Lighting coefficients: a cubemap as four irradiance coefficients per colour.
 // It stands on the unit's own `Picture`, `check_room` and `srgb_to_linear`; the bytes of a texel and the square root are those of the
 // crate `texel`.
+// The call takes a code, as those that `texture` passes on do.
 #![tactic(auto)]
 
 pub mod call;

@@ -1,5 +1,6 @@
 // Up to 64 texels of a row. The columns' places and the guesses at their roots are worked out first, each in a loop of its own, the
-// guesses in vector code; the sums are added up one texel after the other. All in one loop takes 28 ns a texel in place of 16.
+// guesses in vector code; the sums are added up one texel after the other. The bar is 1.5 of a plain loop's time, which this form meets at
+// 1.32: all in one loop takes 28 ns a texel in place of 16.
 ghost use Rattle.std.specs.Prelude.{◌≡◌, ◌+◌, ◌≤◌, ◌<◌, length};
 ghost use Rattle.rules.specs.Irradiance.{centre_of, gets, all_get};
 ghost use Rattle.irradiance.specs.Holding.{Placed};

@@ -25,7 +25,7 @@ pub fn centre(side: u32, x: u32) -> Coordinate
 }
 
 // 1 + u*u + v*v, left to right.
-#[tactic(auto, unfolding(rules::specs::Irradiance::distance_of))]
+#[tactic(auto, using(crate::proofs::Spans::distance_in), unfolding(rules::specs::Irradiance::distance_of))]
 pub fn distance(u: Coordinate, v: Coordinate) -> SquaredDistance
     ensures { result.d ≡ distance_of u.at v.at }
 {
@@ -34,7 +34,7 @@ pub fn distance(u: Coordinate, v: Coordinate) -> SquaredDistance
     }
 }
 
-// The direction of a place, before it is divided.
+// The direction of a place, before it is divided. Faces are numbers: document 01 numbers them, and 0 to 5 are counted.
 #[tactic(auto, unfolding(rules::specs::Irradiance::towards))]
 fn towards(face: u32, u: f32, v: f32) -> Vector<f32>
     ensures { result ≡ towards face u v }
@@ -70,6 +70,7 @@ fn towards(face: u32, u: f32, v: f32) -> Vector<f32>
 }
 
 // The basis at a place of a face, times the weight; `guess` is one at the root.
+#[tactic(auto, unfolding(rules::specs::Irradiance::weight_of, rules::specs::Irradiance::divided_by, rules::specs::Irradiance::basis_of, rules::specs::Irradiance::place_basis))]
 pub fn place_basis(omega: f32, face: u32, u: Coordinate, v: Coordinate, guess: f64) -> Basis<f32>
     ensures { result ≡ place_basis omega face u.at v.at }
 {

@@ -16,7 +16,7 @@ pub struct Quad<T> {
 }
 
 impl<T: Copy> Quad<T> {
-    // The same worked out of each.
+    // The same worked out of each. Beside `choice::lanes::each`, which is of lanes: this crate does not stand on that one.
     pub fn map<U, F: Fn(T) -> U>(self, f: F) -> Quad<U>
         requires { F.IsAlwaysCallable f }
         ensures { Each (F.post f) self result }
@@ -39,6 +39,7 @@ pub fn mean(p: Quad<f32>) -> f32
 
 // One rule for all four channels. Compiled into its callers: a call for each texel would be felt.
 #[inline(always)]
+#[tactic(auto, unfolding(rules::specs::Reducing::each_of))]
 pub fn each<F: Fn(Quad<u8>) -> u8>(byte: F, q: Quad<u32>) -> u32
     requires { F.IsAlwaysCallable byte }
     ensures { (rule : _) → Follows (F.post byte) rule → result ≡ each_of rule q.p00 q.p10 q.p01 q.p11 }

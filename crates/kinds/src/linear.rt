@@ -19,10 +19,12 @@ pub fn byte(packing: Packing, p: Quad<u8>) -> u8
     pack(packing, mean(p.map(unpack)))
 }
 
+// Normal's has this text too, but for `byte`: a trait that named the byte's rule would be longer than the two.
 impl Reduce for Linear {
     ghost rule = { λ it. linear_of it.packing };
 
     #[inline(always)]
+    #[tactic(auto, unfolding(rules::specs::Reducing::linear_of))]
     fn reduced(&self, q: Quad<u32>) -> u32 {
         each(|p| byte(self.packing, p), q)
     }

@@ -36,6 +36,7 @@ impl Reduce for MetallicRoughness {
     ghost rule = { λ it. metallic_of it.packing };
 
     #[inline(always)]
+    #[tactic(auto, unfolding(rules::specs::Reducing::metallic_of))]
     fn reduced(&self, q: Quad<u32>) -> u32 {
         rgba(
             red(q.p00),

@@ -27,10 +27,12 @@ fn byte(packing: Packing, p: Quad<u8>) -> u8
     pack(packing, (mean(p.map(spread)) + 1.0) / 2.0)
 }
 
+// Linear's has this text too, but for `byte`: a trait that named the byte's rule would be longer than the two.
 impl Reduce for Normal {
     ghost rule = { λ it. normal_of it.packing };
 
     #[inline(always)]
+    #[tactic(auto, unfolding(rules::specs::Reducing::normal_of))]
     fn reduced(&self, q: Quad<u32>) -> u32 {
         each(|p| byte(self.packing, p), q)
     }

@@ -2,7 +2,6 @@
 // once, in the halves of one number.
 ghost use Rattle.std.specs.Prelude.{◌≡◌, ◌+◌, ◌*◌, ◌/◌, ◌%◌, ◌<◌, ◌≤◌};
 ghost use Rattle.rules.specs.declared.Packing.TheVariants.{Nearest};
-ghost use Rattle.rules.specs.Kinds.{red_of, green_of, blue_of, alpha_of};
 ghost use Rattle.rules.specs.Reducing.{linear_of};
 
 use crate::above::Standing;
@@ -12,16 +11,9 @@ use crate::rule::Reduce;
 #[derive(Clone, Copy)]
 pub struct Rounded;
 
-// Red in the upper half, blue in the lower.
-fn red_blue(t: u32) -> u32
-    ensures { result ≡ red_of t * 65536 + blue_of t }
-{
-    t / 16777216 * 65536 + t / 256 % 256
-}
-
-// Green in the upper half, alpha in the lower.
-fn green_alpha(t: u32) -> u32
-    ensures { result ≡ green_of t * 65536 + alpha_of t }
+// Two channels that lie 16 bits apart, one in each half: green and alpha of a texel, red and blue of a texel divided by 256.
+fn halves(t: u32) -> u32
+    ensures { result ≡ t / 65536 % 256 * 65536 + t % 256 }
 {
     t / 65536 % 256 * 65536 + t % 256
 }
@@ -47,7 +39,7 @@ impl Reduce for Rounded {
 
     #[inline(always)]
     fn reduced(&self, q: Quad<u32>) -> u32 {
-        quarters(sums(q.map(red_blue))) * 256 + quarters(sums(q.map(green_alpha)))
+        quarters(sums(q.map(|t| halves(t / 256)))) * 256 + quarters(sums(q.map(halves)))
     }
 
     fn tells(&self) -> bool {

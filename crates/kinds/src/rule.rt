@@ -14,7 +14,7 @@ pub trait Reduce {
     fn reduced(&self, q: Quad<u32>) -> u32
         ensures { result ≡ rule self.now q.p00 q.p10 q.p01 q.p11 };
 
-    // Whether `all_right` may answer `true`.
+    // Whether `all_right` may answer `true`. A flag beside an answer: it is asked before any texel is looked at, to size the blocks.
     fn tells(&self) -> bool {
         false
     }
@@ -29,7 +29,7 @@ pub trait Reduce {
 }
 
 // A row, each texel made of its pairs of the two rows above. Compiled into its callers, where the array that it fills is seen to overlap
-// nothing.
+// nothing. The pairs go by their place: of `iter_mut` zipped with chunks of the rows a proof knows how long o is and no texel of it.
 #[inline(always)]
 pub fn row<R: Reduce>(rule: &R, rows: Rows, o: &mut [u32])
     requires { 2 * length o.old ≤ length rows.first.now }

@@ -46,6 +46,7 @@ impl Reduce for Srgb {
     ghost rule = { λ it. srgb_of it.packing };
 
     #[inline(always)]
+    #[tactic(auto, unfolding(rules::specs::Reducing::srgb_of))]
     fn reduced(&self, q: Quad<u32>) -> u32 {
         rgba(
             self.byte(q.map(red)),

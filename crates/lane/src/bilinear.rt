@@ -2,7 +2,6 @@
 ghost use Rattle.std.specs.Prelude.{◌≡◌};
 ghost use Rattle.rules.specs.Lanes.{lanes_of};
 ghost use Rattle.rules.specs.Bilinear.{blend_of};
-ghost use Rattle.rules.proofs.RefusingLookups.{Coordinates};
 ghost use Rattle.places.specs.Sized.{Below};
 ghost use Rattle.lane.specs.Reading.{squares_at, AllWithin, blended_rgb, blended_alpha};
 
@@ -11,6 +10,7 @@ use crate::reading::places;
 use choice::lanes::{each, pairs};
 use places::axis::four_axes;
 use places::blend::{blend, blend_alpha, weigh};
+use places::coordinate::Coordinates;
 use places::place::Level;
 use places::wrap::Wrapping;
 use rules::{Corners, Directions, Four, Lanes, Weights, Wholes};
@@ -21,11 +21,11 @@ pub fn squares(
     on: Level,
     faces: Wholes,
     by: Wrapping,
-    u: Lanes,
-    v: Lanes,
+    u: Coordinates,
+    v: Coordinates,
 ) -> Corners<Four<usize>, Lanes>
-    requires { Below on.plane.faces faces × Coordinates u v }
-    ensures { result ≡ squares_at on.plane faces by.s by.t u v }
+    requires { Below on.plane.faces faces }
+    ensures { result ≡ squares_at on.plane faces by.s by.t u.lanes v.lanes }
 {
     let x = four_axes(by.s, u, on.width());
     let y = four_axes(by.t, v, on.height());
@@ -43,7 +43,7 @@ pub fn squares(
 fn blend_lanes(w: Four<Weights>, p00: Lanes, p10: Lanes, p01: Lanes, p11: Lanes) -> Lanes
     ensures { result ≡ lanes_of (blend_of w.a p00.a p10.a p01.a p11.a) (blend_of w.b p00.b p10.b p01.b p11.b) (blend_of w.c p00.c p10.c p01.c p11.c) (blend_of w.d p00.d p10.d p01.d p11.d) }
 {
-    // Four lines: five operands a lane, of which `pairs` would make pairs of pairs.
+    // Four lines: the corners are read side by side, so a lane's four in one value would be put together by four lines as well.
     Lanes {
         a: blend(w.a, p00.a, p10.a, p01.a, p11.a),
         b: blend(w.b, p00.b, p10.b, p01.b, p11.b),
@@ -53,6 +53,7 @@ fn blend_lanes(w: Four<Weights>, p00: Lanes, p10: Lanes, p01: Lanes, p11: Lanes)
 }
 
 // The colours of four lanes, from their places: all first corners are read, then all second ones, and each channel is blended.
+// Places and texels come apart, as to `rgb_four`.
 #[tactic(auto, unfolding(crate::specs::Reading::blended_rgb, crate::specs::Reading::read_rgb, rules::specs::Bilinear::corners_rgb, rules::specs::Bilinear::blend_rgb))]
 pub fn squares_rgb(texels: &[u32], f: Corners<Four<usize>, Lanes>) -> Directions
     requires { AllWithin texels.now f }
@@ -71,6 +72,7 @@ pub fn squares_rgb(texels: &[u32], f: Corners<Four<usize>, Lanes>) -> Directions
 }
 
 // The alphas of four lanes, from their places: all first corners are read, then all second ones, and each lane is blended.
+// Apart from `squares_rgb`, since C names both lookups and an alpha is blended by another rule, along x first.
 #[tactic(auto, unfolding(crate::specs::Reading::blended_alpha, crate::specs::Reading::read_alpha, rules::specs::Bilinear::corners_alpha))]
 pub fn squares_alpha(texels: &[u32], f: Corners<Four<usize>, Lanes>) -> Lanes
     requires { AllWithin texels.now f }
@@ -80,7 +82,7 @@ pub fn squares_alpha(texels: &[u32], f: Corners<Four<usize>, Lanes>) -> Lanes
     let p10 = opacity_four(texels, f.p10);
     let p01 = opacity_four(texels, f.p01);
     let p11 = opacity_four(texels, f.p11);
-    // Four lines: six operands a lane.
+    // Four lines, as in `blend_lanes`.
     Lanes {
         a: blend_alpha(f.fx.a, f.fy.a, p00.a, p10.a, p01.a, p11.a),
         b: blend_alpha(f.fx.b, f.fy.b, p00.b, p10.b, p01.b, p11.b),

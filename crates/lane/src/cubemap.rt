@@ -23,7 +23,7 @@ impl<'a> Cube<'a> {
     ghost use Rattle.places.specs.Spots.{OnCube};
     ghost use Rattle.lane.specs.Cubes.{lowered_place, cube_four};
 
-    // Where a lane reads a level of the picture: the nearest texel on its face.
+    // Where a lane reads a level of the picture, by its number as `level_at`: the nearest texel on its face.
     fn place(self, s: Spot, level: u32) -> usize
         requires { OnCube s × (level ≤ top self.layout.now.picture.width self.layout.now.picture.height) }
         ensures { result ≡ lowered_place self.entry.layout.now.picture.width self.entry.layout.now.picture.height s level }
@@ -34,7 +34,7 @@ impl<'a> Cube<'a> {
         on.place(s.face as usize, x, y)
     }
 
-    // Where four do, each at its own level.
+    // Where four do, each at its own level, by its number as `level_at`.
     #[tactic(auto, unfolding(crate::specs::Cubes::cube_four))]
     pub fn places(self, met: Seen, levels: Wholes) -> Four<usize>
         requires { Below (suc (top self.layout.now.picture.width self.layout.now.picture.height)) levels }

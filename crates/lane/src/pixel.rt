@@ -29,6 +29,7 @@ fn opacity(texel: u32) -> f32
 }
 
 // The colours of four lanes, from their places.
+// Places come from the layout and texels from the caller: a value of both would be put together in each lookup, to be taken apart at once.
 #[tactic(auto, unfolding(crate::specs::Reading::read_rgb))]
 pub fn rgb_four(texels: &[u32], at: Four<usize>) -> Directions
     requires { Inside texels.now at }
@@ -42,7 +43,8 @@ pub fn rgb_four(texels: &[u32], at: Four<usize>) -> Directions
     }
 }
 
-// The alphas of four lanes, from their places.
+// The alphas of four lanes, from their places, which are asked as those of `rgb_four`.
+// Apart from it, since C names both lookups and a colour and an alpha are read by different rules.
 #[tactic(auto, unfolding(crate::specs::Reading::read_alpha))]
 pub fn opacity_four(texels: &[u32], at: Four<usize>) -> Lanes
     requires { Inside texels.now at }

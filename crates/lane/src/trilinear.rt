@@ -27,7 +27,7 @@ pub fn two_levels(levels: Lanes, top: Top) -> Pairing<Wholes, Lanes>
     }
 }
 
-// Where four lanes read, at the lower levels and at the upper ones.
+// Where four lanes read, at the lower levels and at the upper ones, by their numbers as `level_at`.
 pub fn level_places(cube: Cube, met: Seen, m: Pairing<Wholes, Lanes>) -> Pairing<Four<usize>, Lanes>
     requires { Below (suc (top cube.layout.now.picture.width cube.layout.now.picture.height)) m.low × Below (suc (top cube.layout.now.picture.width cube.layout.now.picture.height)) m.high }
     ensures { result ≡ record { low = cube_four cube.entry.layout.now.picture.width cube.entry.layout.now.picture.height met.spots m.low; high = cube_four cube.entry.layout.now.picture.width cube.entry.layout.now.picture.height met.spots m.high; part = m.part } }

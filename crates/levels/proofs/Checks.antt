@@ -1,6 +1,7 @@
 -- The code of a level's verdict goes by what is right behind the level before, counted from there; the definition by places in the
 -- chain. Both are the same texels, since a level starts where the one before ends. Assumes nothing.
-use Rattle.std.specs.Prelude.{None, Some}
+use Rattle.std.specs.Prelude.{Option, None, Some}
+use Rattle.std.specs.Option.{option_map}
 use mathlib.Core.Path.{◌≡◌, sym, ap, ◌∙◌}
 use mathlib.Core.Bool.{true, false}
 use mathlib.Core.List.{List}
@@ -21,7 +22,7 @@ use Rattle.rules.proofs.Bounds.{faces-some, faces-most, top-most, level-end}
 use Rattle.rules.proofs.Checks.{first-none, first_some, due-at}
 use Rattle.kinds.proofs.Runs.{over-within}
 use Rattle.reduce.specs.Levels.{Sides}
-use Rattle.reduce.specs.Right.{Right}
+use Rattle.reduce.specs.Right.{Right, FirstWrong}
 
 -- what `check_next` asks of a picture that is taken
 pub sides-of : {kind w h n : ℕ} → Chained kind w h n → Sides (faces_of kind) w h
@@ -83,16 +84,19 @@ module _ (reduce : ℕ → ℕ → ℕ → ℕ → ℕ) (faces w h m : ℕ) (l :
   unfolding level_verdict
   wrong-place lt = sym (first_some _ _ _ _ (omega arith) (omega arith) (wrong-at lt) all-before)
 
--- the same of the code's own values: r is what `check_next` answered
-pub judged : (reduce : ℕ → ℕ → ℕ → ℕ → ℕ) (faces w h level : ℕ) (l : List ℕ) (r : ℕ) → 1 ≤ level → Behind faces w h level (length l)
-    → Right (faces * side_at (level - 1) h * side_at (level - 1) w) (drop (start faces w h (level - 1)) l) (faces * half (side_at (level - 1) h) * half (side_at (level - 1) w)) (λ k. get_or (next reduce faces (side_at (level - 1) w) (side_at (level - 1) h) (take (faces * side_at (level - 1) h * side_at (level - 1) w) (drop (start faces w h (level - 1)) l))) k 0) r
-    → (start faces w h level + r < start faces w h (level + 1) → Some (start faces w h level + r) ≡ level_verdict reduce faces w h l level)
-    × (start faces w h (level + 1) ≤ start faces w h level + r → None ≡ level_verdict reduce faces w h l level)
+-- the first that is wrong, as a place in the chain
+verdict : (reduce : ℕ → ℕ → ℕ → ℕ → ℕ) (faces w h m : ℕ) (l : List ℕ) → start faces w h (suc m) ≤ length l → (wrong : Option ℕ)
+    → FirstWrong (size_at faces w h m) (drop (start faces w h m) l) (size_at faces w h (suc m)) (λ k. get_or (next reduce faces (side_at m w) (side_at m h) (standing faces w h l m)) k 0) wrong
+    → option_map (λ k. start faces w h (suc m) + k) wrong ≡ level_verdict reduce faces w h l (suc m)
+verdict reduce faces w h m l room None t = follows-at reduce faces w h m l _ room t.right (omega arith)
+verdict reduce faces w h m l room (Some r) t = wrong-place reduce faces w h m l r room t.right t.inside
+
+-- the same of the code's own values: `wrong` is what `check_next` answered
+pub judged : (reduce : ℕ → ℕ → ℕ → ℕ → ℕ) (faces w h level : ℕ) (l : List ℕ) (wrong : Option ℕ) → 1 ≤ level → Behind faces w h level (length l)
+    → FirstWrong (faces * side_at (level - 1) h * side_at (level - 1) w) (drop (start faces w h (level - 1)) l) (faces * half (side_at (level - 1) h) * half (side_at (level - 1) w)) (λ k. get_or (next reduce faces (side_at (level - 1) w) (side_at (level - 1) h) (take (faces * side_at (level - 1) h * side_at (level - 1) w) (drop (start faces w h (level - 1)) l))) k 0) wrong
+    → option_map (λ k. start faces w h level + k) wrong ≡ level_verdict reduce faces w h l level
 unfolding size_at standing
-judged reduce faces w h zero l r some b t = absurd (omega arith)
-judged reduce faces w h (suc m) l r some b t =
+judged reduce faces w h zero l wrong some b t = absurd (omega arith)
+judged reduce faces w h (suc m) l wrong some b t =
     let e : suc m - 1 ≡ m = omega arith in
-    let u = rw (e, half-side m w, half-side m h) at t in
-    let end : start faces w h (suc m + 1) ≡ start faces w h (suc m) + size_at faces w h (suc m) = rw (add-one (suc m)) (start-suc faces w h (suc m)) in
-    let room : start faces w h (suc m) ≤ length l = let i = b.inside in omega arith in
-    (λ lt. wrong-place reduce faces w h m l r room u (omega (arith, end)), λ le. follows-at reduce faces w h m l r room u (omega (arith, end)))
+    verdict reduce faces w h m l (let i = b.inside in omega arith) wrong (rw (e, half-side m w, half-side m h) at t)

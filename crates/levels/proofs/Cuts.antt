@@ -94,13 +94,13 @@ cut-first w cx cy cw ch source old inside read room = record { inside = inside; 
 
 module _ {w cx cy cw ch : ℕ} {source old s : List ℕ} {y : ℕ} (t : CutRows w cx cy cw ch source old s y) where
   -- where the next row is read, and where it goes
-  pub cut-reads : y < ch → (cy + y) * w + cx + cw ≤ length source
-  cut-reads lt =
+  pub cut_reads : y < ch → (cy + y) * w + cx + cw ≤ length source
+  cut_reads lt =
       let below : cy + y < cy + ch = omega arith in
       omega (arith, mul-le-mul_right w below, suc-mul (cy + y) w, t.read, t.inside)
 
   pub cut-row : y < ch → cw ≤ length (take (length source - ((cy + y) * w + cx)) (drop ((cy + y) * w + cx) source))
-  cut-row lt = rw (part_to_end source ((cy + y) * w + cx), length-drop) (omega (arith, cut-reads lt))
+  cut-row lt = rw (part_to_end source ((cy + y) * w + cx), length-drop) (omega (arith, cut_reads lt))
 
   pub cut-room : y < ch → y * cw + cw ≤ length old
   cut-room lt = rows-room t.rows lt

@@ -16,6 +16,7 @@ fn bytes_at(i: usize, bytes: &[u8]) -> u32
 }
 
 // As many texels of the bytes as there is room for. By place: of a `zip` of `iter_mut` the library tells the length alone.
+#[tactic(auto, unfolding(rules::specs::Levels::tab))]
 pub fn put_bytes(bytes: &[u8], texels: &mut [u32])
     requires { 4 * length texels.old ≤ length bytes.now }
     ensures { texels.new ≡ tab (length texels.old) (bytes_at bytes.now) }

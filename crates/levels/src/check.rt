@@ -10,6 +10,7 @@ use crate::lent::{Chain, Lent, lent_chain};
 use crate::level::PictureLevel;
 use crate::picture::Picture;
 use reduce::by_kind::check_next;
+use reduce::shape::Followed;
 use rules::{Packing, Refusal};
 
 impl Chain<'_> {
@@ -26,15 +27,12 @@ impl Chain<'_> {
             picture,
             number: level - 1,
         };
-        let at = PictureLevel {
-            picture,
-            number: level,
+        let pair = Followed {
+            shape: before.shape(),
+            texels: &self.texels[before.start()..],
         };
-        let from = before.start();
-        let start = at.start();
-        let end = at.end();
-        let place = start + check_next(picture.kind, packing, before.shape(), &self.texels[from..]);
-        if place < end { Some(place) } else { None }
+        let wrong = check_next(picture.kind, packing, pair)?;
+        Some(before.end() + wrong)
     }
 
     // The whole chain's: the first of its levels' verdicts.

@@ -10,7 +10,8 @@ use crate::bytes::put_bytes;
 use crate::refusals::{check_room, sides_taken};
 use rules::Refusal;
 
-// A face's place in the cross, its column in faces: 2 0 1 1 1 3.
+// A face's place in the cross, its column in faces: 2 0 1 1 1 3. Faces are numbers: document 01 numbers them, and 0 to 5 are counted.
+#[tactic(auto, unfolding(rules::specs::Cross::column_of))]
 fn column_of(face: usize) -> usize
     ensures { result ≡ column_of face }
 {
@@ -23,6 +24,7 @@ fn column_of(face: usize) -> usize
 }
 
 // A face's place in the cross, its row in faces: 1 1 0 2 1 1.
+#[tactic(auto, unfolding(rules::specs::Cross::row_of))]
 fn row_of(face: usize) -> usize
     ensures { result ≡ row_of face }
 {

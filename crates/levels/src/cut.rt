@@ -21,19 +21,18 @@ fn multiple(order: u32, n: u32) -> bool
 }
 
 // Along one side of the picture: the cut's side is not 0, corner and side are multiples of 2^order, and it lies inside.
+#[tactic(auto, unfolding(crate::specs::Cuts::along))]
 fn along(order: u32, side: u32, corner: u32, part: u32) -> bool
     requires { order ≤ 12 }
     ensures { result ≡ along order side corner part }
 {
-    if part == 0 {
-        return false;
-    }
-    if (side as usize) < (corner as usize) + (part as usize) {
-        return false;
-    }
-    multiple(order, corner) && multiple(order, part)
+    part != 0
+        && (corner as usize) + (part as usize) <= (side as usize)
+        && multiple(order, corner)
+        && multiple(order, part)
 }
 
+// Order, corner and sides are three of the call's own arguments, taken as they come: a type of them would be made for this test alone.
 // 11: cut order above 12, a side 0, corner or side not a multiple of 2^order, or not wholly inside.
 fn check_place(order: u32, picture: Picture, corner: Pair, sides: Pair) -> Result<(), Refusal>
     ensures { result ≡ told (cut_refusal order picture.width picture.height corner sides) }
@@ -68,6 +67,7 @@ fn check_cut(
 
 // Writes the cut's rows one after the other. The source's level 0 is w wide. By place: of `chunks_exact_mut` the library tells the length
 // alone.
+#[tactic(auto, using(crate::proofs::Cuts::cut_reads))]
 fn write_cut(w: usize, corner: Pair, sides: Pair, source: &[u32], target: &mut [u32])
     requires across { corner.x + sides.x ≤ w }
     requires source_room { (corner.y + sides.y) * w ≤ length source.now }

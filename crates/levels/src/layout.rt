@@ -37,6 +37,8 @@ impl Layout {
     }
 
     // A level: where it starts, and its faces and their sides.
+    // A number, and no `PictureLevel`: that carries a picture of its own, and this would ask that it is the layout's.
+    #[tactic(auto, unfolding(rules::specs::Places::plane_of))]
     pub fn plane(&self, level: u32) -> Plane
         requires { level ≤ top self.now.picture.width self.now.picture.height }
         ensures { result ≡ plane_of (code_of self.now.picture.kind) self.now.picture.width self.now.picture.height level }
@@ -56,6 +58,7 @@ impl Layout {
 
 // Writes the starts of a picture's levels in their order, and answers the whole chain's texels. Up to the top level the larger side
 // only halves: held to 1 as well, it made the walk take 143 instructions at 512 square in place of 125.
+// An out parameter beside the answer: the array is filled in place, in the frame of the one that keeps it.
 fn starts_of(picture: Picture, starts: &mut [u32; 13]) -> u32
     ensures total { result ≡ count (faces_of (code_of picture.kind)) picture.width picture.height }
     ensures leaves { starts.new ≡ over 0 starts.old (top picture.width picture.height + 1) (start (faces_of (code_of picture.kind)) picture.width picture.height) }

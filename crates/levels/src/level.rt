@@ -18,6 +18,7 @@ impl PictureLevel {
     ghost use Rattle.rules.specs.Sizes.{side_at, size_at, start};
 
     // A side of the picture at the level: shifted right by its number, and at least 1.
+    #[tactic(auto, unfolding(rules::specs::Sizes::side_at))]
     fn side(self, side: u32) -> u32
         ensures { result ≡ side_at self.number side }
     {
@@ -47,13 +48,14 @@ impl PictureLevel {
     }
 
     // How many texels it has.
+    #[tactic(auto, unfolding(rules::specs::Sizes::size_at))]
     fn size(self) -> usize
         ensures { result ≡ size_at (faces_of (code_of self.picture.kind)) self.picture.width self.picture.height self.number }
     {
-        self.picture.kind.faces() * (self.height() as usize) * (self.width() as usize)
+        self.shape().size()
     }
 
-    // Where it starts: levels follow each other without gaps.
+    // Where it starts: levels follow each other without gaps. Beside `layout::starts_of`: one level's start, with no table of them all.
     pub fn start(self) -> usize
         ensures { result ≡ start (faces_of (code_of self.picture.kind)) self.picture.width self.picture.height self.number }
     {

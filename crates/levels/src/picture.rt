@@ -20,7 +20,7 @@ pub struct Picture {
 impl Picture {
     ghost use Rattle.std.specs.Prelude.{◌≡◌, ◌*◌, ◌<◌, ◌≤◌, IfOk};
     ghost use Rattle.rules.specs.Sizes.{top, count};
-    ghost use Rattle.rules.specs.Refusals.{picture_refusal, level_refusal, no_cubemap_refusal, only_cubemap_refusal, face_refusal};
+    ghost use Rattle.rules.specs.Refusals.{picture_refusal, level_refusal, no_cubemap_refusal, only_cubemap_refusal, face_taken, face_refusal};
     ghost use Rattle.rules.specs.Answers.{done, told};
     ghost use Rattle.levels.specs.Pictures.{IsPicture};
 
@@ -57,7 +57,7 @@ impl Picture {
     pub fn level0(self) -> usize
         ensures { result ≡ faces_of (code_of self.kind) * self.height * self.width }
     {
-        self.kind.faces() * (self.height as usize) * (self.width as usize)
+        self.shape().size()
     }
 
     // The whole chain's texels.
@@ -86,7 +86,7 @@ impl Picture {
         }
     }
 
-    // 8: a cubemap, to a call that does not take it.
+    // 8: a cubemap, to a call that does not take it. Beside `check_cubemap`: two refusals of document 01 with one number.
     #[tactic(auto, unfolding(rules::specs::Refusals::no_cubemap_refusal, rules::specs::Refusals::refusal_of, rules::specs::Answers::answer))]
     pub fn check_no_cubemap(self) -> Result<(), Refusal>
         ensures { result ≡ told (no_cubemap_refusal (code_of self.kind)) }
@@ -108,13 +108,20 @@ impl Picture {
         }
     }
 
-    // 8: face above 5 for a cubemap, or not 0 for another kind.
+    // Whether it has the face: a cubemap 0 to 5, another kind 0 alone.
+    pub fn has_face(self, face: u32) -> bool
+        ensures { result ≡ face_taken (code_of self.kind) face }
+    {
+        (face as usize) < self.kind.faces()
+    }
+
+    // 8: a face that it has not.
     #[tactic(auto, unfolding(rules::specs::Refusals::face_refusal, rules::specs::Refusals::refusal_of, rules::specs::Answers::answer))]
     pub fn check_face(self, face: u32) -> Result<(), Refusal>
         ensures told { result ≡ told (face_refusal (code_of self.kind) face) }
         ensures below { IfOk result (λ _. face < faces_of (code_of self.kind)) }
     {
-        if (face as usize) < self.kind.faces() {
+        if self.has_face(face) {
             Ok(())
         } else {
             Err(Refusal::KindNotTaken)

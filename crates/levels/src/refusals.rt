@@ -31,7 +31,7 @@ pub fn check_sides(width: u32, height: u32) -> Result<(), Refusal>
     }
 }
 
-// 3: a lent buffer of n entries is shorter than what is read or filled there.
+// 3: a lent buffer of n entries is shorter than what is read or filled there. A length is what this is about: the buffers differ in type.
 #[tactic(auto, unfolding(rules::specs::Refusals::buffer_refusal, rules::specs::Refusals::refusal_of, rules::specs::Answers::answer))]
 pub fn check_room(needed: usize, n: usize) -> Result<(), Refusal>
     ensures told { result ≡ told (buffer_refusal needed n) }

@@ -11,7 +11,7 @@ use rules::{LevelSizes, Refusal};
 fn log2(n: u32) -> u32
     ensures { result ≡ log2 n }
 {
-    31 - u32::leading_zeros(n | 1)
+    (n | 1).ilog2()
 }
 
 // The top level: floor(log2(larger side)).

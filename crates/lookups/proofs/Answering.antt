@@ -18,7 +18,7 @@ use Rattle.rules.specs.Places.{plane_of}
 use Rattle.rules.specs.Refusals.{◌or_else◌, face_taken, picture_refusal, chain_refusal, buffer_refusal, no_cubemap_refusal, sampler_refusal, coordinates_refusal, finite_refusal, sample4_refusal, bilinear_rgb_refusal, bilinear_alpha_refusal, cubemap_refusal, trilinear_refusal}
 use Rattle.rules.specs.Answers.{answer, refused, told, spots_at, sample4_rgb_answer, sample4_alpha_answer, bilinear_rgb_answer, bilinear_alpha_answer, cubemap_answer, trilinear_answer}
 use Rattle.rules.proofs.Refusing.{Chained, or_else-taken, answer-given}
-use Rattle.rules.proofs.Answering.{first, or_else_assoc, answer_then}
+use Rattle.rules.proofs.Answering.{first, or_else_assoc, answer_then, told_none, given_none, given_is}
 use Rattle.rules.proofs.RefusingLookups.{EachWhole, Cubed, face-below, sample4-facts}
 use Rattle.rules.proofs.Bounds.{faces-some}
 use Rattle.rules.proofs.Inside.{mip-below}
@@ -41,28 +41,31 @@ pub sample4_told : {A : Type 0} (kind w h n : ℕ) (s : Sampler) (u v steps : La
 unfolding sample4_refusal chain_refusal
 sample4_told kind w h n s u v steps a = ap (λ k. answer k refused (Ok a)) (or_else_assoc (picture_refusal kind w h) _ _) ∙ answer_then _ _ a
 
-pub sample4-none : (kind w h n : ℕ) (s : Sampler) (u v steps : Lanes) → picture_refusal kind w h ≡ 0
-    → (buffer_refusal (count (faces_of kind) w h) n or_else no_cubemap_refusal kind or_else sampler_refusal s or_else coordinates_refusal u v or_else finite_refusal steps) ≡ 0
-    → sample4_refusal kind w h n s u v steps ≡ 0
+-- past them, where it reads
+pub sample4-found : (kind w h n : ℕ) (s : Sampler) (u v steps : Lanes) {k x y : ℕ} {at : Four ℕ} → (k ≡ kind) × (x ≡ w) × (y ≡ h) → Ok tt ≡ told (picture_refusal kind w h)
+    → Ok at ≡ answer (buffer_refusal (count (faces_of k) x y) n or_else no_cubemap_refusal k or_else sampler_refusal s or_else coordinates_refusal u v or_else finite_refusal steps) refused (Ok (sample4_four k x y s u v steps))
+    → (sample4_refusal kind w h n s u v steps ≡ 0) × (at ≡ sample4_four kind w h s u v steps)
 unfolding sample4_refusal chain_refusal
-sample4-none kind w h n s u v steps p rest = or_else_assoc (picture_refusal kind w h) _ _ ∙ or_else-taken _ _ p rest
+sample4-found kind w h n s u v steps is told reads =
+    let e = rw (is.0, is.1, is.2) at (sym reads) in
+    (or_else_assoc (picture_refusal kind w h) _ _ ∙ or_else-taken _ _ (told_none _ (sym told)) (given_none _ _ _ e), given_is _ _ _ e)
 
 -- ---- by coordinates
 pub faces-below : (kind : ℕ) (f : Wholes) → EachWhole (face_taken kind) f → Below (faces_of kind) f
 faces-below kind f e = record { a = face-below kind _ e.a; b = face-below kind _ e.b; c = face-below kind _ e.c; d = face-below kind _ e.d }
 
-module _ (kind w h : ℕ) (l : List ℕ) (sampler : Sampler) (u v : Lanes) where
-  pub sample4-rgb-read : (steps : Lanes) {f : Four ℕ} → sample4_refusal kind w h (length l) sampler u v steps ≡ 0 → f ≡ sample4_four kind w h sampler u v steps → sample4_rgb_answer kind w h l sampler u v steps ≡ Ok (read_rgb l f)
+module _ (kind w h : ℕ) (l : List ℕ) (sampler : Sampler) (u v steps : Lanes) {f : Four ℕ} (found : (sample4_refusal kind w h (length l) sampler u v steps ≡ 0) × (f ≡ sample4_four kind w h sampler u v steps)) where
+  pub sample4-rgb-read : Ok (read_rgb l f) ≡ sample4_rgb_answer kind w h l sampler u v steps
   unfolding sample4_rgb_answer sample4_four
-  sample4-rgb-read steps z e = rw e (answer-given _ _ _ z ∙ ap Ok (nearest-colours l _ _ _ u v))
+  sample4-rgb-read = rw found.1 (sym (answer-given _ _ _ found.0 ∙ ap Ok (nearest-colours l _ _ _ u v)))
 
-  pub sample4-alpha-read : (steps : Lanes) {f : Four ℕ} → sample4_refusal kind w h (length l) sampler u v steps ≡ 0 → f ≡ sample4_four kind w h sampler u v steps → sample4_alpha_answer kind w h l sampler u v steps ≡ Ok (read_alpha l f)
+  pub sample4-alpha-read : Ok (read_alpha l f) ≡ sample4_alpha_answer kind w h l sampler u v steps
   unfolding sample4_alpha_answer sample4_four
-  sample4-alpha-read steps z e = rw e (answer-given _ _ _ z ∙ ap Ok (nearest-alphas l _ _ _ u v))
+  sample4-alpha-read = rw found.1 (sym (answer-given _ _ _ found.0 ∙ ap Ok (nearest-alphas l _ _ _ u v)))
 
-  pub sample4-inside : (steps : Lanes) {f : Four ℕ} → sample4_refusal kind w h (length l) sampler u v steps ≡ 0 → f ≡ sample4_four kind w h sampler u v steps → Inside l f
+  pub sample4-inside : Inside l f
   unfolding sample4_four
-  sample4-inside steps z e = rw e (nearest-inside l _ (sample4-facts kind w h (length l) sampler u v steps z).chained (mip-below w h steps) _ _ u v)
+  sample4-inside = rw found.1 (nearest-inside l _ (sample4-facts kind w h (length l) sampler u v steps found.0).chained (mip-below w h steps) _ _ u v)
 
 -- a picture's first face is one of its faces
 pub first-below : (kind : ℕ) → Below (faces_of kind) (record { a = 0; b = 0; c = 0; d = 0 })

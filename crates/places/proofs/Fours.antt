@@ -4,8 +4,8 @@
 use mathlib.Core.Path.{◌≡◌, refl, sym, ap, ◌∙◌, subst}
 use mathlib.Core.Logic.{◌⊎◌, inl, inr}
 use mathlib.Core.Bool.{Bool, true, false, not, cond, ◌&&◌, ◌||◌}
-use Prim.Native.Nat.{ℕ, zero, suc, ◌+◌, ◌-◌, ◌*◌, ◌/◌, ◌^◌, ◌≤◌, ◌<◌, min, max}
-use native.Mathlib.Nat.{le_trans, le_of_lt, le_of_eq, lt_of_lt_of_le, lt_of_le_of_lt, lt_of_not-le, lt_irrefl, zero-lt-suc, mul-one, mul_right_comm, mul-le-mul_right, le_of_mul-le-mul_right, le_of_suc-le-suc, le-suc, eq-or-lt_of_le, pow-suc, pow-le-pow_right, le-div_iff_mul-le, div-lt_iff_lt-mul}
+use Prim.Native.Nat.{ℕ, zero, suc, ◌+◌, ◌-◌, ◌*◌, ◌/◌, ◌^◌, ◌≤◌, ◌<◌, min}
+use native.Mathlib.Nat.{le_trans, le_of_lt, le_of_eq, lt_of_lt_of_le, lt_of_not-le, lt_irrefl, zero-lt-suc, mul-one, mul_right_comm, mul-le-mul_right, le_of_mul-le-mul_right, le_of_suc-le-suc, le-suc, eq-or-lt_of_le, pow-suc, pow-le-pow_right, le-div_iff_mul-le, div-lt_iff_lt-mul}
 use native.Mathlib.Omega.{arith}
 use lib.IntN.{ℤ, pos}
 use lib.Dec.{T, leb, ltb, eqb, leb→le, le→leb, ltb→lt, lt→ltb, eqb→eq, lit≤}
@@ -19,8 +19,6 @@ use lib.Ieee.Digits.{size-lt, size_reaches}
 use borrow.Author.Tests.{le-leb, lt-leb, leb-true, leb-false}
 use Rattle.rules.specs.Floats.{float, one32}
 use Rattle.rules.specs.Footprint.{four_of}
-use Rattle.rules.specs.Sizes.{log2, top}
-use Rattle.rules.proofs.Sides.{log2-bounds, exp-le}
 use Rattle.places.proofs.Magnitudes.{same_test}
 use Rattle.places.proofs.Taken.{or_l, or_split}
 use Rattle.places.proofs.Wholes.{only_zero}
@@ -260,8 +258,3 @@ pub four-infinite : (n : ℕ) → n ≤ 12 → four_of n (inf false) ≡ n
 unfolding four_of
 four-infinite zero h = refl
 four-infinite (suc n) h = ap (λ (b : Bool). cond b (suc n) (four_of n (inf false))) (below_inf (4 ^ suc n) (float (4 ^ suc n)) (power (suc n) h))
-
--- the top level of a picture is at most 12
-pub top-most : (w h : ℕ) → 0 < w → w ≤ 4096 → h ≤ 4096 → top w h ≤ 12
-unfolding top
-top-most w h a b c = exp-le (log2 (max w h)) 12 (lt_of_le_of_lt (log2-bounds (max w h) (omega arith)).0 (omega arith))

@@ -4,10 +4,10 @@ use mathlib.Core.Path.{◌≡◌, refl, sym, ap, ◌∙◌, subst, subst₂}
 use mathlib.Core.Logic.{inl, inr}
 use mathlib.Core.Bool.{Bool, true, false, cond}
 use Prim.Native.Nat.{ℕ, ◌+◌, ◌-◌, ◌*◌, ◌/◌, ◌≤◌, ◌<◌, min}
-use native.Mathlib.Nat.{lt_irrefl, eq-zero-or-pos, zero-mul, mul-one, mul-pos, mul_assoc, mul_right_comm, mul-mul-mul_comm, add-mul, mul-le-mul_right, le_of_mul-le-mul_right, lt_of_mul-lt-mul_right, mul-lt-mul_of_pos_right, mul-div_cancel}
+use native.Mathlib.Nat.{lt_irrefl, eq-zero-or-pos, zero-mul, mul-one, mul-pos, mul_assoc, mul_right_comm, mul-mul-mul_comm, add-mul, mul-le-mul_right, le_of_mul-le-mul_right, mul-div_cancel}
 use native.Mathlib.Omega.{arith}
 use lib.IntN.{ℤ}
-use lib.Dec.{T, ltb, ltb→lt, lt→ltb}
+use lib.Dec.{T, ltb}
 use lib.Ieee.{Float, nan, inf, fin, binary32, up, down, unlike, round, sum, neg, add, sub, mul, div, le, lt, to_unsigned}
 use lib.Ieee.Fits.{down_pos}
 use lib.Ieee.Exact.{HasValue}
@@ -15,8 +15,7 @@ use lib.Ieee.Scale.{round_same}
 use lib.Ieee.Positive.{first_pos}
 use borrow.Author.Tests.{le-ltb, ltb-true, ltb-false, ne_eqb}
 use Rattle.texel.proofs.Range.{le→}
-use Rattle.texel.proofs.Wholes.{as-whole, left, right, minus}
-use Rattle.places.proofs.Magnitudes.{same_test}
+use Rattle.texel.proofs.Wholes.{as-whole, left, right, minus, lt-whole}
 
 -- ---- a value m * 2^e beside p / c
 pub below-value : (m : ℕ) (e : ℤ) (y : Float) (p c : ℕ) → HasValue y false p c → T (le (fin false m e) y) → m * up e * c ≤ p * down e
@@ -169,24 +168,7 @@ div-whole (fin t m e) (fin false k d) s a b v w h =
     turn : (a b C : ℕ) → a * C * b ≡ a * (b * C)
     turn a b C = mul_right_comm a C b ∙ mul_assoc a b C
 
--- the test of two whole values, and the smaller of them
-pub lt-whole : (x y : Float) (a b : ℕ) → HasValue x false a 1 → HasValue y false b 1 → lt x y ≡ ltb a b
-unfolding lt
-lt-whole nan y a b v w = absurd v
-lt-whole (inf t) y a b v w = absurd v
-lt-whole (fin true m e) y a b v w = absurd (subst T v.0 tt)
-lt-whole (fin false m e) nan a b v w = absurd w
-lt-whole (fin false m e) (inf t) a b v w = absurd w
-lt-whole (fin false m e) (fin true k d) a b v w = absurd (subst T w.0 tt)
-lt-whole (fin false m e) (fin false k d) a b v w =
-    rw (left a (m * up e) (down e) (down d) v.1, right b (k * up d) (down e) (down d) w.1) (scaled a b (down e * down d) (mul-pos (down_pos e) (down_pos d)))
-  where
-    scaled : (a b C : ℕ) → 0 < C → ltb (a * C) (b * C) ≡ ltb a b
-    scaled a b C h =
-        same_test (ltb (a * C) (b * C)) (ltb a b)
-        (λ t. lt→ltb a b (lt_of_mul-lt-mul_right C (ltb→lt (a * C) (b * C) t)))
-        (λ t. lt→ltb (a * C) (b * C) (mul-lt-mul_of_pos_right (ltb→lt a b t) h))
-
+-- the smaller of two whole values
 pub least-whole : (x y : Float) (a b : ℕ) → HasValue x false a 1 → HasValue y false b 1 → HasValue (cond (lt x y) x y) false (min a b) 1
 least-whole x y a b v w = rw (lt-whole x y a b v w) (go (ltb a b) refl)
   where

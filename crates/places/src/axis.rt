@@ -3,9 +3,9 @@ ghost use Rattle.std.specs.Prelude.{◌≡◌, T};
 ghost use Rattle.rules.specs.Refusals.{coordinate_taken};
 ghost use Rattle.rules.specs.Whole.{floor_of};
 ghost use Rattle.rules.specs.Places.{nearest_of};
-ghost use Rattle.rules.proofs.RefusingLookups.{EachLane};
 ghost use Rattle.places.specs.Stands.{Counted, nearests_of, Stands, axes_of};
 
+use crate::coordinate::Coordinates;
 use crate::side::Side;
 use crate::wrap::wrap_four;
 use choice::lanes::each;
@@ -21,11 +21,10 @@ fn nearest_texel(u: f32, width: Side) -> f32
 
 // The texels of the nearest lookup along a side: t of four lanes, wrapped.
 #[tactic(auto, unfolding(crate::specs::Stands::nearests_of, crate::specs::Stands::wraps_of))]
-pub fn nearest_four(mode: Mode, u: Lanes, width: Side) -> Wholes
-    requires { EachLane coordinate_taken u }
-    ensures { result ≡ nearests_of mode u width.texels }
+pub fn nearest_four(mode: Mode, u: Coordinates, width: Side) -> Wholes
+    ensures { result ≡ nearests_of mode u.lanes width.texels }
 {
-    let t = each(u, |x| nearest_texel(x, width));
+    let t = each(u.lanes, |x| nearest_texel(x, width));
     wrap_four(mode, t, width)
 }
 
@@ -46,11 +45,10 @@ fn standing(u: f32, width: Side) -> Axis<f32, f32>
 
 // x0 and x1 of four lanes, wrapped; and fx.
 #[tactic(auto, unfolding(crate::specs::Stands::axes_of, crate::specs::Stands::wraps_of, rules::specs::Bilinear::axis_of))]
-pub fn four_axes(mode: Mode, u: Lanes, width: Side) -> Axis<Wholes, Lanes>
-    requires { EachLane coordinate_taken u }
-    ensures { result ≡ axes_of mode u width.texels }
+pub fn four_axes(mode: Mode, u: Coordinates, width: Side) -> Axis<Wholes, Lanes>
+    ensures { result ≡ axes_of mode u.lanes width.texels }
 {
-    let at = each(u, |x| standing(x, width));
+    let at = each(u.lanes, |x| standing(x, width));
     Axis {
         first: wrap_four(mode, each(at, |x| x.first), width),
         second: wrap_four(mode, each(at, |x| x.second), width),

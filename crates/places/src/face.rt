@@ -56,6 +56,7 @@ fn sign(x: f32) -> f32
 }
 
 // 0 for a component >= 0, -0 included, and 1 for one below: the odd face.
+// A number, as document 01 numbers the faces: they are counted and handed out to C.
 #[tactic(auto, unfolding(rules::specs::Faces::odd_of))]
 fn odd(x: f32) -> u32
     ensures { (result ≡ odd_of x) × (result ≤ 1) }

@@ -8,7 +8,7 @@ use crate::tile::{ranges_size, tiles};
 use rules::Refusal;
 use texture::Picture;
 
-// Writes the range of every tile.
+// Writes the range of every tile. One number, taken apart: two loops, one in the other, would need an invariant each for the one here.
 fn write_tiles(level: Level0<'_>, ranges: &mut [u8])
     requires { ranges_size level.picture.width level.picture.height ≤ length ranges.old }
     ensures { ranges.new ≡ ranges_of level.entry.picture.width level.entry.picture.height level.entry.texels.now ++ drop (ranges_size level.entry.picture.width level.entry.picture.height) ranges.old }

@@ -73,6 +73,7 @@ impl Range {
 }
 
 // The range of some texels.
+#[tactic(auto, using(crate::proofs::Scanning::range_none))]
 pub fn scan(texels: &[u32]) -> Range
     ensures { RangeIs texels.now result }
 {

@@ -48,7 +48,7 @@ impl Level0<'_> {
             x: tile_side(self.picture.width, i),
             y: tile_side(self.picture.height, j),
         };
-        // Never refused: the tile lies in the picture.
+        // Never refused: the tile lies in the picture. The unit's own cut, which takes a code: docs/DECISIONS.md 21.
         let _ = cut(
             self.picture.kind.code(),
             self.picture.width,

@@ -1,4 +1,5 @@
--- The laws of a level and the next where both lie in one buffer; the code goes by slices, over `Levels`.
+-- The laws of a level and the next where both lie in one buffer, from before rows were slices: documents name them, and no proof of the code
+-- imports them (it goes by slices, over `Levels`).
 -- The next level is one run behind a level, written row by row: row y of all rows, face after face, has the number y % h2 in the face
 -- y / h2, and its texels are those of the level's definition, i / w2 being y and i % w2 being x. Assumes nothing.
 use mathlib.Core.Path.{◌≡◌, refl, sym, ap, ◌∙◌}

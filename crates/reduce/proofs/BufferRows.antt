@@ -1,27 +1,23 @@
--- The laws of a row where it lies in one buffer with its sources, counted from the front; the code goes by slices, over `Rows`.
+-- The laws of a row where it lies in one buffer with its sources, counted from the front, from before rows were slices: documents name them,
+-- and no proof of the code imports them (it goes by slices, over `Rows`).
 -- A row is one run behind its sources, written by parts. A part reads its pairs from the buffer as it is by then; the parts before
 -- it lie behind the sources, so it reads what was there at first. Where the sources are two wide and more no second place is held
 -- to the row, and where they are one wide both places are the one texel. For any way to make one texel of four. Assumes nothing.
 use mathlib.Core.Path.{◌≡◌, refl, sym, ◌∙◌}
 use mathlib.Core.List.{List, [], ◌∷◌}
-use Prim.Native.Nat.{ℕ, ◌+◌, ◌-◌, ◌*◌, ◌/◌, ◌≤◌, ◌<◌, min}
+use Prim.Native.Nat.{ℕ, ◌+◌, ◌-◌, ◌*◌, ◌/◌, ◌≤◌, ◌<◌}
 use native.Mathlib.Nat.{add-zero}
 use native.Mathlib.Omega.{arith}
 use lib.Dec.{lit<, lit≤}
-use lib.ListN.{length, get_or, take, drop, set, get_or-append}
+use lib.ListN.{length, get_or, take, drop, set}
 use lib.Seq.{get_or-drop}
 use borrow.Author.Rules.{part_to_end}
 use Rattle.rules.specs.Sizes.{half}
-use Rattle.rules.specs.Levels.{tab}
-use Rattle.rules.proofs.Grid.{length-tab, get_or-tab}
 use Rattle.kinds.specs.Runs.{over, pair_of}
 use Rattle.reduce.specs.Rows.{held_of}
 use Rattle.kinds.proofs.Runs.{Over, over-same, over-more, over-one, over-ext, over-within}
-
--- the run at the front of a list
-pub front_at : (old : List ℕ) (n : ℕ) (f : ℕ → ℕ) (k : ℕ) → k < n → get_or (over 0 old n f) k 0 ≡ f k
-unfolding over
-front_at old n f k lt = get_or-append (tab n f) _ 0 k (omega (arith, length-tab n f)) ∙ get_or-tab n f k lt
+use Rattle.reduce.proofs.Rows.{wide_at}
+use Rattle.reduce.proofs.Standing.{front_at}
 
 -- lists that agree below `to`, read through two starts
 pub seen : (to : ℕ) (s old : List ℕ) → ((i : ℕ) → i < to → get_or s i 0 ≡ get_or old i 0)
@@ -80,15 +76,11 @@ module _ (reduce : ℕ → ℕ → ℕ → ℕ → ℕ) where
       over-one to s (held_of reduce 1 (drop r0 s) (drop r1 s)) v lt (e ∙ rw (get_or-drop r0 s 0 0, get_or-drop r1 s 0 0, add-zero r0, add-zero r1))
 
   -- rows of two and more: no place is held
-  pub wide_at : (w : ℕ) (a b : List ℕ) (k : ℕ) → k < w / 2 → pair_of reduce a b k ≡ held_of reduce w a b k
-  unfolding pair_of held_of
-  wide_at w a b k lt = let x : min (2 * k + 1) (w - 1) ≡ 2 * k + 1 = omega arith in rw x
-
   pub wide_is : (to w r0 r1 : ℕ) (s t : List ℕ) → 2 ≤ w
       → t ≡ over to s (w / 2) (pair_of reduce (drop r0 s) (drop r1 s)) → t ≡ over to s (half w) (held_of reduce w (drop r0 s) (drop r1 s))
   wide_is to w r0 r1 s t le e =
       let z : half w ≡ w / 2 = omega arith in
-      rw z (e ∙ over-ext to s (w / 2) (pair_of reduce (drop r0 s) (drop r1 s)) (held_of reduce w (drop r0 s) (drop r1 s)) (wide_at w (drop r0 s) (drop r1 s)))
+      rw z (e ∙ over-ext to s (w / 2) (pair_of reduce (drop r0 s) (drop r1 s)) (held_of reduce w (drop r0 s) (drop r1 s)) (wide_at reduce w (drop r0 s) (drop r1 s)))
 
   -- rows of one: its texel is held
   pub one-is : (to w r0 r1 : ℕ) (s t : List ℕ) → 1 ≤ w → w < 2

@@ -2,14 +2,15 @@
 -- nothing.
 use mathlib.Core.Path.{◌≡◌, refl, sym, ap, subst, ◌∙◌}
 use mathlib.Core.List.{List, ◌++◌}
+use Rattle.std.specs.Prelude.{Option}
 use Prim.Native.Nat.{ℕ, ◌+◌, ◌-◌, ◌*◌, ◌≤◌, ◌<◌, min}
 use native.Mathlib.Decide.{dec_le}
 use native.Mathlib.Omega.{arith}
 use lib.ListN.{length, drop, length-drop, drop_of_length-le}
 use lib.Seq.{take_at, drop_at, drop-drop}
-use Rattle.reduce.specs.Right.{Right}
+use Rattle.reduce.specs.Right.{Right, FirstWrong}
 use Rattle.reduce.proofs.Rows.{row_at}
-use Rattle.reduce.proofs.Standing.{right-part}
+use Rattle.reduce.proofs.Standing.{right-part, wrong-by}
 
 pub record Part (c part rest : List ℕ) (n : ℕ) : Type 0 where
   pub few : length part ≤ 64
@@ -43,6 +44,6 @@ part-of {c} {part} {rest} {left} {n} el ep long some =
     }
 
 -- told of the part alone
-pub part-right : {c part rest : List ℕ} {n r : ℕ} {f : ℕ → ℕ} → Part c part rest n → Right 0 part (length part) f r → Right (64 * n) c (length part) f r
-part-right {c} {part} {n = n} {r = r} {f = f} p t =
-    right-part (64 * n) c p.room (subst (λ (l : List ℕ). Right 0 l (length part) f r) p.is t)
+pub part-right : {c part rest : List ℕ} {n : ℕ} {f : ℕ → ℕ} {wrong : Option ℕ} → Part c part rest n → FirstWrong 0 part (length part) f wrong → FirstWrong (64 * n) c (length part) f wrong
+part-right {c} {part} {n = n} {f = f} p t =
+    wrong-by (λ r u. right-part (64 * n) c p.room (subst (λ (l : List ℕ). Right 0 l (length part) f r) p.is u)) t

@@ -2,6 +2,10 @@
 -- which it would be made, with one buffer as found and as left. A check goes on while the run that stands there grows, and stops at
 -- the first place that holds something else. Assumes nothing.
 use mathlib.Core.Path.{◌≡◌, refl, sym, ap, ◌∙◌}
+use Rattle.std.specs.Prelude.{Option, Some, None, MatchOption}
+use Rattle.std.specs.Option.{unwrap_or}
+use Rattle.std.specs.List.{zip, AllWithin, HoldsAt}
+use Rattle.std.proofs.lemmas.Slice.Zip.{length-zip, get_or-zip}
 use mathlib.Core.List.{List, ◌++◌}
 use Prim.Native.Nat.{ℕ, zero, suc, ◌+◌, ◌-◌, ◌≤◌, ◌<◌}
 use native.Mathlib.Nat.{zero-add}
@@ -17,7 +21,7 @@ use Rattle.rules.proofs.Grid.{length-tab, get_or-tab, tab-ext}
 use Rattle.kinds.specs.Runs.{over, pair_of}
 use Rattle.kinds.proofs.Runs.{over-ext, Over, over_first, over-set, over-more, over-all}
 use Rattle.reduce.specs.Rows.{held_of}
-use Rattle.reduce.specs.Right.{Right}
+use Rattle.reduce.specs.Right.{Right, FirstWrong}
 use Rattle.reduce.proofs.Rows.{over_put, row_at, row-long, row-read, front-is, wide_at}
 
 module _ {at : ℕ} {s : List ℕ} {f : ℕ → ℕ} where
@@ -47,6 +51,37 @@ module _ {at : ℕ} {s : List ℕ} {f : ℕ → ℕ} where
         same = t.same ∙ over-ext at s r f g (λ k lt. e k (omega arith));
         other = λ lt z. t.other lt (z ∙ sym (e r lt));
       }
+
+-- what follows of how far places are right follows of the first that is not
+pub wrong-by : {at to n : ℕ} {s t : List ℕ} {f g : ℕ → ℕ} {wrong : Option ℕ} → ((r : ℕ) → Right at s n f r → Right to t n g r)
+    → FirstWrong at s n f wrong → FirstWrong to t n g wrong
+wrong-by {n = n} {wrong = wrong} law w = record { inside = w.inside; right = law (unwrap_or wrong n) w.right }
+
+-- two texels side by side
+abbrev pub Alike : ℕ × ℕ → Type 0
+Alike p = p.0 ≡ p.1
+
+abbrev pub Unlike : ℕ × ℕ → Type 0
+Unlike p = p.0 ≡ p.1 → ⊥
+
+alike-at : (made c : List ℕ) (k : ℕ) → k < length made → k < length c → Alike (get_or (zip made c) k (0, 0)) → get_or c (0 + k) 0 ≡ get_or made k 0
+alike-at made c k lm lc e = ap (λ i. get_or c i 0) (zero-add k) ∙ sym (rw (get_or-zip made c k (0, 0) lm lc) at e)
+
+-- a list beside another, up to the first pair that differs
+pub first-unlike : (made c : List ℕ) (r : Option ℕ) → length made ≡ length c
+    → MatchOption r (AllWithin Alike (zip made c) 0 (length (zip made c))) (λ i. (i < length (zip made c)) × HoldsAt Unlike (zip made c) i × AllWithin Alike (zip made c) 0 i)
+    → FirstWrong 0 c (length c) (λ k. get_or made k 0) r
+first-unlike made c None long same =
+    record { inside = tt; right = right-all (stands-all (length c) (omega arith) (λ k lt. alike-at made c k (omega arith) lt (same k (0, 0) (omega arith) (omega (arith, length-zip made c))))) }
+first-unlike made c (Some i) long found =
+    let few : i < length c = omega (arith, found.0, length-zip made c) in
+    let unlike : Unlike (get_or (zip made c) i (0, 0)) = found.1 (0, 0) in
+    record {
+      inside = few;
+      right =
+          right-stop (stands-all i (omega arith) (λ k lt. alike-at made c k (omega arith) (omega arith) (found.2 k (0, 0) (omega arith) lt))) (omega arith)
+          (λ e. unlike (rw (get_or-zip made c i (0, 0) (omega arith) few) (sym e ∙ ap (λ k. get_or c k 0) (zero-add i))));
+    }
 
 -- the run at the front of a list
 pub front_at : (old : List ℕ) (n : ℕ) (f : ℕ → ℕ) (k : ℕ) → k < n → get_or (over 0 old n f) k 0 ≡ f k
@@ -89,18 +124,27 @@ made-right f m part made le e t =
     right-ext f (λ k lt. ap (λ (l : List ℕ). get_or l k 0) (front-is m part made f le e) ∙ get_or-tab m f k lt) t
 
 -- a turn: m places more are looked at, behind x that stand
-module _ {n x m r : ℕ} {f g : ℕ → ℕ} {s : List ℕ} (o : Over 0 s x f s) (room : n ≤ length s) (le : x + m ≤ n) (e : (k : ℕ) → k < m → g k ≡ f (x + k)) (t : Right x s m g r) where
-  grown : Over 0 s (x + r) f s
-  grown = let most = t.most in over-more o x r g s (omega arith) t.same (omega arith) (λ k lt. e k (omega arith))
+module _ {n x m : ℕ} {f g : ℕ → ℕ} {s : List ℕ} (o : Over 0 s x f s) (room : n ≤ length s) (le : x + m ≤ n) (e : (k : ℕ) → k < m → g k ≡ f (x + k)) where
+  grown : {r : ℕ} → Right x s m g r → Over 0 s (x + r) f s
+  grown {r} t = let most = t.most in over-more o x r g s (omega arith) t.same (omega arith) (λ k lt. e k (omega arith))
 
-  -- it goes on where all of them are right
-  pub turn-more : m ≤ r → Over 0 s (x + m) f s
-  turn-more all = let most = t.most in let z : r ≡ m = omega arith in rw z at grown
+  -- it goes on where none of them is wrong
+  pub turn-more : FirstWrong x s m g None → Over 0 s (x + m) f s
+  turn-more t = grown t.right
 
-  -- and stops at the first that is not
-  pub turn-stop : r < m → Right 0 s n f (x + r)
-  turn-stop lt =
-      right-stop grown (omega arith) (λ z. t.other lt (ap (λ (k : ℕ). get_or s k 0) (sym (zero-add (x + r))) ∙ z ∙ sym (e r lt)))
+  -- and stops at the first that is
+  pub turn-stop : {r : ℕ} → FirstWrong x s m g (Some r) → FirstWrong 0 s n f (Some (x + r))
+  turn-stop {r} t =
+      let lt = t.inside in
+      let u = t.right in
+      record {
+        inside = omega arith;
+        right = right-stop (grown u) (omega arith) (λ z. u.other lt (ap (λ (k : ℕ). get_or s k 0) (sym (zero-add (x + r))) ∙ z ∙ sym (e r lt)));
+      }
+
+-- and after the last turn
+pub turn-end : {at n : ℕ} {s : List ℕ} {f : ℕ → ℕ} → Over at s n f s → FirstWrong at s n f None
+turn-end o = record { inside = tt; right = right-all o }
 
 -- rows of two and more: no place is held
 pub wide-right : {r : ℕ} {c : List ℕ} (reduce : ℕ → ℕ → ℕ → ℕ → ℕ) (w : ℕ) (a b : List ℕ) (n : ℕ) → 2 ≤ w → n ≡ half w

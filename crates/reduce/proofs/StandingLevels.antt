@@ -2,6 +2,7 @@
 -- the level is right no more. Assumes nothing.
 use mathlib.Core.Path.{◌≡◌, refl, sym, ap, ◌∙◌}
 use mathlib.Core.List.{List, ◌++◌}
+use Rattle.std.specs.Prelude.{Option, Some, None}
 use Prim.Native.Nat.{ℕ, ◌+◌, ◌-◌, ◌*◌, ◌/◌, ◌%◌, ◌≤◌, ◌<◌, min}
 use native.Mathlib.Nat.{add_assoc, zero-add, zero-mul, one-mul, add-mul, mul-le-mul, mul-le-mul_right, mod-lt, div-eq_of_lt, mod-eq_of_lt, div-add-mod', div-lt_iff_lt-mul}
 use native.Mathlib.Omega.{arith}
@@ -13,12 +14,12 @@ use Rattle.rules.proofs.Grid.{get_or-tab}
 use Rattle.kinds.proofs.Runs.{Over}
 use Rattle.reduce.specs.Rows.{rows_of}
 use Rattle.reduce.specs.Levels.{first_row, second_row, Run}
-use Rattle.reduce.specs.Right.{Right}
+use Rattle.reduce.specs.Right.{Right, FirstWrong}
 use Rattle.reduce.proofs.Bounds.{half-most}
 use Rattle.reduce.proofs.Levels.{cell_of, cells-next, Level, places, held-cell}
 use Rattle.reduce.proofs.Rows.{row_at}
 use Rattle.reduce.proofs.Runs.{run-even}
-use Rattle.reduce.proofs.Standing.{right-ext, right-part, turn-more, turn-stop}
+use Rattle.reduce.proofs.Standing.{right-ext, right-part, wrong-by, turn-more, turn-stop}
 
 -- the texels of the next level, as the definition has them
 pub cell-next : (reduce : ℕ → ℕ → ℕ → ℕ → ℕ) (faces w h : ℕ) (l : List ℕ) (k : ℕ) → k < faces * half h * half w
@@ -73,16 +74,15 @@ module _ {faces w h w2 h2 : ℕ} {l : List ℕ} (t : Level faces w h w2 h2 l) (y
         (held-cell t reduce (y + k / half w) row (k % half w) i ∙ ap (cell_of reduce w h w2 h2 l) place)
 
     -- and right up to their texel r
-    module _ (reduce : ℕ → ℕ → ℕ → ℕ → ℕ) {c : List ℕ} (long : length c ≡ faces * h2 * w2) (o : Over 0 c (y * w2) (cell_of reduce w h w2 h2 l) c)
-        (r : ℕ) (right : Right 0 (row_at (m * w2) (y * w2) c) (m * w2) (rows_of reduce w a b l) r) where
-      part : Right (y * w2) c (m * w2) (rows_of reduce w a b l) r
-      part = right-part (y * w2) c (omega (arith, room_for, long)) right
+    module _ (reduce : ℕ → ℕ → ℕ → ℕ → ℕ) {c : List ℕ} (long : length c ≡ faces * h2 * w2) (o : Over 0 c (y * w2) (cell_of reduce w h w2 h2 l) c) where
+      part : {r : Option ℕ} → FirstWrong 0 (row_at (m * w2) (y * w2) c) (m * w2) (rows_of reduce w a b l) r → FirstWrong (y * w2) c (m * w2) (rows_of reduce w a b l) r
+      part t = wrong-by (λ r u. right-part (y * w2) c (omega (arith, room_for, long)) u) t
 
-      pub rows-go : m * w2 ≤ r → Over 0 c ((y + m) * w2) (cell_of reduce w h w2 h2 l) c
-      rows-go all = rw (add-mul y m w2) (turn-more {n = length c} o (omega arith) (omega (arith, room_for, long)) (rows-cell reduce) part all)
+      pub rows-go : FirstWrong 0 (row_at (m * w2) (y * w2) c) (m * w2) (rows_of reduce w a b l) None → Over 0 c ((y + m) * w2) (cell_of reduce w h w2 h2 l) c
+      rows-go t = rw (add-mul y m w2) (turn-more {n = length c} o (omega arith) (omega (arith, room_for, long)) (rows-cell reduce) (part t))
 
-      pub rows-stop : r < m * w2 → Right 0 c (length c) (cell_of reduce w h w2 h2 l) (y * w2 + r)
-      rows-stop few = turn-stop {n = length c} o (omega arith) (omega (arith, room_for, long)) (rows-cell reduce) part few
+      pub rows-stop : {r : ℕ} → FirstWrong 0 (row_at (m * w2) (y * w2) c) (m * w2) (rows_of reduce w a b l) (Some r) → FirstWrong 0 c (length c) (cell_of reduce w h w2 h2 l) (Some (y * w2 + r))
+      rows-stop t = turn-stop {n = length c} o (omega arith) (omega (arith, room_for, long)) (rows-cell reduce) (part t)
 
 -- a level that was made at the front of a part, and compared
 pub made-next : {r : ℕ} {c : List ℕ} (n : ℕ) (after part list : List ℕ) → after ≡ list → length list ≡ n

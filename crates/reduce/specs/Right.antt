@@ -1,5 +1,6 @@
 -- Texels that stand where they should, up to the first that does not. Definitions only.
-use Rattle.std.specs.Prelude.{◌≡◌, List, ℕ, ◌+◌, ◌*◌, ◌≤◌, ◌<◌, get_or, take}
+use Rattle.std.specs.Prelude.{◌≡◌, List, ℕ, ◌+◌, ◌*◌, ◌≤◌, ◌<◌, get_or, take, Option, IfSome}
+use Rattle.std.specs.Option.{unwrap_or}
 use Rattle.rules.specs.Sizes.{half}
 use Rattle.rules.specs.Levels.{next}
 use Rattle.kinds.specs.Runs.{over}
@@ -12,8 +13,13 @@ pub record Right (at : ℕ) (s : List ℕ) (n : ℕ) (f : ℕ → ℕ) (r : ℕ)
   pub same : s ≡ over at s r f
   pub other : r < n → get_or s (at + r) 0 ≡ f r → ⊥
 
--- a level stands at the front of s, and so far the next stands right behind it
-abbrev pub NextRight : (ℕ → ℕ → ℕ → ℕ → ℕ) → Shape → List ℕ → ℕ → Type 0
-NextRight reduce shape s r =
+-- the number of the first of n places that does not hold what it should, and none where all of them do
+pub record FirstWrong (at : ℕ) (s : List ℕ) (n : ℕ) (f : ℕ → ℕ) (wrong : Option ℕ) : Type 0 where
+  pub inside : IfSome wrong (λ k. k < n)
+  pub right : Right at s n f (unwrap_or wrong n)
+
+-- a level stands at the front of s, and behind it the next, so far as it is right
+abbrev pub NextFirstWrong : (ℕ → ℕ → ℕ → ℕ → ℕ) → Shape → List ℕ → Option ℕ → Type 0
+NextFirstWrong reduce shape s r =
     let n = shape.faces * shape.height * shape.width in
-    Right n s (shape.faces * half shape.height * half shape.width) (λ k. get_or (next reduce shape.faces shape.width shape.height (take n s)) k 0) r
+    FirstWrong n s (shape.faces * half shape.height * half shape.width) (λ k. get_or (next reduce shape.faces shape.width shape.height (take n s)) k 0) r

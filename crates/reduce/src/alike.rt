@@ -1,16 +1,11 @@
 // Texels that were made, held against those that stand in their place.
 ghost use Rattle.std.specs.Prelude.{◌≡◌, length, get_or};
-ghost use Rattle.reduce.specs.Right.{Right};
+ghost use Rattle.reduce.specs.Right.{FirstWrong};
 
-// How many of c are the made ones before the first that is not.
-pub fn alike(made: &[u32], c: &[u32]) -> usize
+// The first of c that is not the made one.
+pub fn alike(made: &[u32], c: &[u32]) -> Option<usize>
     requires { length made.now ≡ length c.now }
-    ensures { Right 0 c.now (length c.now) (λ k. get_or made.now k 0) result }
+    ensures { FirstWrong 0 c.now (length c.now) (λ k. get_or made.now k 0) result }
 {
-    for (k, texel) in c.iter().enumerate() {
-        if made[k] != *texel {
-            return k;
-        }
-    }
-    c.len()
+    made.iter().zip(c).position(|(made, texel)| made != texel)
 }

@@ -1,11 +1,11 @@
 // A kind's rule: `fill` and `check_next` choose the type, once a call, by an enum. Cubemap and Linear are the plain mean, in nearest mode
 // by whole numbers. Both have the same arms: a visitor with a method for each rule would be longer than they are.
-ghost use Rattle.std.specs.Prelude.{◌≡◌, ◌+◌, ◌*◌, ◌≤◌, length};
-ghost use Rattle.rules.specs.Sizes.{half, start};
+ghost use Rattle.std.specs.Prelude.{◌≡◌, ◌≤◌, length};
+ghost use Rattle.rules.specs.Sizes.{start};
 ghost use Rattle.rules.specs.Levels.{filled};
 ghost use Rattle.rules.specs.Kinds.{code_of};
 ghost use Rattle.rules.specs.Reducing.{srgb_of, reduce_of};
-ghost use Rattle.reduce.specs.Right.{NextRight};
+ghost use Rattle.reduce.specs.Right.{NextFirstWrong};
 
 use crate::shape::{Followed, Shape};
 use crate::{chain, check_level};
@@ -17,6 +17,7 @@ use kinds::srgb::Srgb;
 use rules::{Kind, Packing};
 
 // SRGB's tables stand in this function's frame, which no other kind enters.
+// `room` here and in `fill` is of a `&mut` slice that is handed on: a value that held it would have to be taken apart at each step.
 #[inline(never)]
 fn fill_srgb(packing: Packing, shape: Shape, left: usize, s: &mut [u32])
     requires room { (1 ≤ left) × (start shape.faces shape.width shape.height left ≤ length s.old) }
@@ -48,19 +49,17 @@ pub fn fill(kind: Kind, packing: Packing, shape: Shape, left: usize, s: &mut [u3
 // The same of a check. One function that takes a closure was tried: nothing is inferred of what the two closures do, so each would say
 // these same clauses.
 #[inline(never)]
-fn check_srgb(packing: Packing, pair: Followed) -> usize
-    ensures { NextRight (srgb_of packing) pair.entry.shape pair.entry.texels.now result }
+fn check_srgb(packing: Packing, pair: Followed) -> Option<usize>
+    ensures { NextFirstWrong (srgb_of packing) pair.entry.shape pair.entry.texels.now result }
 {
     check_level::check_next(&Srgb::new(packing), pair)
 }
 
-// How many texels of the next level are right behind a level, by a kind and a packing mode.
+// The first texel that is not right of the level behind a level, by a kind and a packing mode.
 #[tactic(auto, unfolding(rules::specs::Reducing::reduce_of))]
-pub fn check_next(kind: Kind, packing: Packing, shape: Shape, s: &[u32]) -> usize
-    requires room { shape.faces * shape.height * shape.width + shape.faces * half shape.height * half shape.width ≤ length s.now }
-    ensures { NextRight (reduce_of (code_of kind) packing) shape s.now result }
+pub fn check_next(kind: Kind, packing: Packing, pair: Followed) -> Option<usize>
+    ensures { NextFirstWrong (reduce_of (code_of kind) packing) pair.entry.shape pair.entry.texels.now result }
 {
-    let pair = Followed { shape, texels: s };
     match (kind, packing) {
         (Kind::Srgb, _) => check_srgb(packing, pair),
         (Kind::Normal, _) => check_level::check_next(&Normal { packing }, pair),

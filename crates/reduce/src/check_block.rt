@@ -4,7 +4,7 @@ ghost use Rattle.std.specs.Prelude.{◌≡◌, ◌+◌, ◌*◌, ◌<◌, ◌≤
 ghost use Rattle.rules.specs.Sizes.{half};
 ghost use Rattle.reduce.specs.Rows.{rows_of};
 ghost use Rattle.reduce.specs.Levels.{Run};
-ghost use Rattle.reduce.specs.Right.{Right};
+ghost use Rattle.reduce.specs.Right.{FirstWrong};
 
 use crate::alike::alike;
 use crate::check_row::check_row;
@@ -47,10 +47,10 @@ pub fn together<R: Reduce>(rule: &R, shape: Shape, y: usize) -> usize
 }
 
 // The m rows c, against the 2m rows w wide that are all of `above`.
-fn check_block<R: Reduce>(rule: &R, w: usize, m: usize, above: &[u32], c: &[u32]) -> usize
+fn check_block<R: Reduce>(rule: &R, w: usize, m: usize, above: &[u32], c: &[u32]) -> Option<usize>
     requires block { (1 ≤ w) × (w ≤ 4096) × (1 ≤ m) × (m * half w ≤ 128) }
     requires rows { (length above.now ≡ 2 * m * w) × (length c.now ≡ m * half w) }
-    ensures { Right 0 c.now (length c.now) (rows_of (R.rule rule.now) w 0 w above.now) result }
+    ensures { FirstWrong 0 c.now (length c.now) (rows_of (R.rule rule.now) w 0 w above.now) result }
 {
     let n = c.len();
     let mut made = [0u32; 128];
@@ -66,10 +66,10 @@ pub fn check_rows<R: Reduce>(
     above: Above,
     level: &[u32],
     c: &[u32],
-) -> usize
+) -> Option<usize>
     requires room { (1 ≤ w) × (w ≤ 4096) × (1 ≤ m) × (above.first + w ≤ length level.now) × (above.second + w ≤ length level.now) × (length c.now ≡ m * half w) }
     requires block { 2 ≤ m → (above.second ≡ above.first + w) × (above.first + 2 * m * w ≤ length level.now) × (m * half w ≤ 128) }
-    ensures { Right 0 c.now (length c.now) (rows_of (R.rule rule.now) w above.first above.second level.now) result }
+    ensures { FirstWrong 0 c.now (length c.now) (rows_of (R.rule rule.now) w above.first above.second level.now) result }
 {
     let first = above.first;
     if 1 < m {

@@ -2,17 +2,17 @@
 ghost use Rattle.std.specs.Prelude.{◌≡◌, ◌*◌, length, get_or};
 ghost use Rattle.rules.specs.Sizes.{half};
 ghost use Rattle.rules.specs.Levels.{next};
-ghost use Rattle.reduce.specs.Right.{Right, NextRight};
+ghost use Rattle.reduce.specs.Right.{FirstWrong, NextFirstWrong};
 
 use crate::check_block::{check_rows, together};
 use crate::shape::{Followed, Shape};
 use kinds::rule::Reduce;
 
-// How many texels of c, the level after a level, are right before the first that is not.
-fn check_level<R: Reduce>(rule: &R, shape: Shape, level: &[u32], c: &[u32]) -> usize
+// The first texel of c, the level after a level, that is not right.
+fn check_level<R: Reduce>(rule: &R, shape: Shape, level: &[u32], c: &[u32]) -> Option<usize>
     requires level { length level.now ≡ shape.faces * shape.height * shape.width }
     requires after { length c.now ≡ shape.faces * half shape.height * half shape.width }
-    ensures { Right 0 c.now (length c.now) (λ k. get_or (next (R.rule rule.now) shape.faces shape.width shape.height level.now) k 0) result }
+    ensures { FirstWrong 0 c.now (length c.now) (λ k. get_or (next (R.rule rule.now) shape.faces shape.width shape.height level.now) k 0) result }
 {
     let below = shape.next();
     let w2 = below.width;
@@ -23,19 +23,18 @@ fn check_level<R: Reduce>(rule: &R, shape: Shape, level: &[u32], c: &[u32]) -> u
         let m = together(rule, shape, y);
         let above = shape.rows_above(y);
         let at = y * w2;
-        let n = m * w2;
-        let right = check_rows(rule, shape.width, m, above, level, &c[at..at + n]);
-        if right < n {
-            return at + right;
+        let part = &c[at..at + m * w2];
+        if let Some(wrong) = check_rows(rule, shape.width, m, above, level, part) {
+            return Some(at + wrong);
         }
         y += m;
     }
-    c.len()
+    None
 }
 
-// How many texels of the next level are right before the first that is not.
-pub fn check_next<R: Reduce>(rule: &R, pair: Followed) -> usize
-    ensures { NextRight (R.rule rule.now) pair.entry.shape pair.entry.texels.now result }
+// The first texel of the next level that is not right.
+pub fn check_next<R: Reduce>(rule: &R, pair: Followed) -> Option<usize>
+    ensures { NextFirstWrong (R.rule rule.now) pair.entry.shape pair.entry.texels.now result }
 {
     let n = pair.shape.size();
     let m = pair.shape.next().size();

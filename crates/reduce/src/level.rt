@@ -9,6 +9,7 @@ use crate::shape::Shape;
 use kinds::rule::Reduce;
 
 // Makes the level after a level in `after`.
+// `check_level` goes over rows too, but only looks, and stops: one loop for both would take closures that say both contracts again.
 pub fn make_next<R: Reduce>(rule: &R, shape: Shape, level: &[u32], after: &mut [u32])
     requires level { length level.now ≡ shape.faces * shape.height * shape.width }
     requires after { length after.old ≡ shape.faces * half shape.height * half shape.width }

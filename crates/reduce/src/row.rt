@@ -23,6 +23,7 @@ pub fn narrow<R: Reduce>(rule: &R, p: u32, q: u32) -> u32
 
 // The row o, each texel from its pair of each row. Part after part in an array of its own, which overlaps no source, so that the
 // compiler sees that several texels can be made at once. Not compiled into the loop over the rows, whose numbers would take its registers.
+// `check_pairs` goes by parts too, but only looks, and stops: one loop for both would take closures that say both contracts again.
 #[inline(never)]
 fn write_pairs<R: Reduce>(rule: &R, rows: Rows, o: &mut [u32])
     requires { 2 * length o.old ≤ length rows.first.now }

@@ -14,6 +14,7 @@ pub struct Shape {
 }
 
 // Where the two rows of a level start that a row of the next is made from.
+// The level and its width stand beside it: they stay, and a value that held them too would be made, and its bounds shown, for every row.
 #[derive(Clone, Copy)]
 pub struct Above {
     pub first: usize,
@@ -89,6 +90,7 @@ impl Shape {
     }
 
     // Those of row y, counted through all faces: rows y0 and y1 of its own face.
+    // y stands beside its shape, here and in `together`: a loop's test says that it is a row, and a type for both would say it again.
     pub fn rows_above(self, y: usize) -> Above
         requires { y < 24576 }
         ensures { (result.first ≡ first_row self.width self.height (half self.height) y) × (result.second ≡ second_row self.width self.height (half self.height) y) }

@@ -12,8 +12,7 @@ mod samples;
 mod stream;
 mod words;
 
-ghost use Rattle.std.specs.Prelude.{◌≤◌, decimal, IfOk, OnOk};
-ghost use Rattle.std.specs.Io.KnownBytes.{Appends};
+ghost use Rattle.std.specs.Prelude.{◌≤◌, IfOk};
 
 use std::io::{ErrorKind, Read, Write};
 use std::{fs, io};
@@ -29,13 +28,6 @@ fn read_record<R: Read>(reader: &mut R) -> io::Result<Option<Record>> {
     }
 }
 
-// Writes a number.
-fn print<W: Write>(number: u32, writer: &mut W) -> io::Result<()>
-    ensures { OnOk result (Appends (W.contents writer.old) (W.contents writer.new) (decimal number)) }
-{
-    write!(writer, "{number}")
-}
-
 // Whether the unit answers as a record says. The first eight records of which it does not are named.
 fn agreed_one<W: Write>(
     record: &Record,
@@ -45,9 +37,7 @@ fn agreed_one<W: Write>(
 ) -> io::Result<bool> {
     let agreed = asks::record_agrees(record);
     if !agreed && wrong < 8 {
-        writer.write_all(b"record ")?;
-        print(number, writer)?;
-        writer.write_all(b" does not agree\n")?;
+        write!(writer, "record {number} does not agree\n")?;
     }
     Ok(agreed)
 }
@@ -71,10 +61,8 @@ fn replay_list<R: Read, W: Write>(reader: &mut R, writer: &mut W) -> io::Result<
     match read_record(reader)? {
         Some(head) if head[0] == 0x4E415753 && head[1] == 1 && head[3] == 36 => {
             let agreed = replay(reader, head[2], writer)?;
-            print(agreed, writer)?;
-            writer.write_all(b" of ")?;
-            print(head[2], writer)?;
-            writer.write_all(b" agree\n")
+            let count = head[2];
+            write!(writer, "{agreed} of {count} agree\n")
         }
         _ => writer.write_all(b"not a list of answers\n"),
     }

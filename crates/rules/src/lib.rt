@@ -31,7 +31,7 @@ pub struct Vector<T> {
 // Four directions; also four colours, red, green and blue.
 pub type Directions = Vector<Lanes>;
 
-// The wrap codes along u and along v.
+// The wrap codes along u and along v. Codes: the sampling calls take every one, and refuse an unknown one in its turn.
 #[derive(Clone, Copy)]
 pub struct Sampler {
     pub wrap_s: u32,
@@ -97,7 +97,8 @@ pub enum Packing {
     Nearest,
 }
 
-// A level within a chain: where it starts, and its faces and their sides.
+// A level within a chain: where it starts, and its faces and their sides. Flat, as `place_of` has it; `Shape` of reduce has the sides with what
+// holds of them.
 #[derive(Clone, Copy)]
 pub struct Plane {
     pub start: usize,

@@ -1,4 +1,4 @@
-// Four numbers behind a pointer, as lanes.
+// Four numbers behind a pointer, as lanes. Functions, and no `From`: neither it nor `Four` is this crate's, and C alone lends such numbers.
 ghost use Rattle.std.specs.Prelude.{◌≡◌};
 ghost use Rattle.station.specs.Written.{to_four, to_directions};
 

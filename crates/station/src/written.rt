@@ -6,7 +6,7 @@ ghost use Rattle.station.specs.Written.{handed, number_words, sizes_words, verdi
 use rules::{Directions, Four, LevelSizes, Refusal, Sh4, Spots};
 use texture::Face;
 
-// What is handed out for a value.
+// What is handed out for a value. A trait, and no `From`: neither it nor the types are this crate's own.
 pub trait Words<W> {
     ghost words_of: { Self → W };
 
@@ -14,7 +14,7 @@ pub trait Words<W> {
         ensures { result ≡ words_of self };
 }
 
-// The number of an answer that has nothing to hand out.
+// The number of an answer that has nothing to hand out. Beside `hand_out`, which wants an out parameter: C gives none here.
 pub fn number(answer: Result<(), Refusal>) -> u32
     ensures { result ≡ number_in answer }
 {

@@ -21,6 +21,7 @@ use Rattle.texel.specs.Ends.{low23, high23, high12}
 use Rattle.texel.proofs.Range.{le→, Between-finite, in-mul, in-mul-abs, le-trans-finite}
 use Rattle.texel.proofs.Unit.{ends}
 use Rattle.texel.proofs.Same.{round-own}
+use Rattle.texel.proofs.Wholes.{value-finite}
 
 pub side-positive : (w : ℕ) → 1 ≤ w → w ≤ 4096 → T (positive (of_int binary32 (pos w)))
 unfolding of_int
@@ -50,11 +51,6 @@ one-times nan n v h = absurd v
 one-times (inf s) n v h = absurd v
 one-times (fin true k d) n v h = absurd (subst T v.0 tt)
 one-times (fin false k d) n v h = ap (λ (z : ℕ). round binary32 false z (1 * down d)) (one-mul (k * up d)) ∙ ap (λ (z : ℕ). round binary32 false (k * up d) z) (one-mul (down d)) ∙ round-own binary32 (fin false k d) tt h
-
-value-finite : (x : Float) (s : Bool) (a c : ℕ) → HasValue x s a c → T (finite x)
-value-finite nan s a c v = v
-value-finite (inf t) s a c v = v
-value-finite (fin t m e) s a c v = tt
 
 side-value : (n : ℕ) → n ≤ 4095 → HasValue (of_int binary32 (pos n)) false n 1
 unfolding of_int

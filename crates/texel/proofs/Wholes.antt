@@ -8,7 +8,7 @@ use native.Mathlib.Omega.{arith}
 use lib.IntN.{ℤ, pos, negsuc, neg_ℤ, nat_abs, ◌+ℤ◌}
 use lib.Dec.{T, ltb}
 use lib.Arith.{digits_div}
-use lib.Ieee.{Float, nan, inf, fin, Format, binary32, binary64, prec, up, down, round, sum, neg, add, sub, of_int, fits}
+use lib.Ieee.{Float, nan, inf, fin, Format, binary32, binary64, prec, up, down, round, sum, neg, add, sub, lt, of_int, fits}
 use lib.Ieee.Fits.{down_pos, add-fits, of_int-fits, fits_widens}
 use lib.Ieee.Exact.{HasValue}
 use lib.Ieee.Back.{round_whole, whole_unique}
@@ -58,6 +58,20 @@ minus a b C h =
   where
     back : (a b : ℕ) → b ≤ a → a - b + b ≡ a
     back a b h = omega arith
+
+-- the test of two whole values
+pub lt-whole : (x y : Float) (a b : ℕ) → HasValue x false a 1 → HasValue y false b 1 → lt x y ≡ ltb a b
+unfolding lt
+lt-whole nan y a b v w = absurd v
+lt-whole (inf s) y a b v w = absurd v
+lt-whole (fin s m e) nan a b v w = absurd w
+lt-whole (fin s m e) (inf t) a b v w = absurd w
+lt-whole (fin s m e) (fin t k d) a b v w =
+    rw (v.0, w.0, left a (m * up e) (down e) (down d) v.1, right b (k * up d) (down e) (down d) w.1) (scale (ltb a b) refl (mul-pos (down_pos e) (down_pos d)))
+  where
+    scale : (r : Bool) → ltb a b ≡ r → 0 < down e * down d → ltb (a * (down e * down d)) (b * (down e * down d)) ≡ r
+    scale true g c = lt-ltb _ _ (mul-lt-mul_of_pos_right (ltb-true a b g) c)
+    scale false g c = le-ltb _ _ (mul-le-mul_right (down e * down d) (ltb-false a b g))
 
 -- ---- the sum of two integers, over one denominator
 module _ (f : Format) (C : ℕ) (D : 0 < C) where

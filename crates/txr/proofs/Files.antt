@@ -8,13 +8,15 @@ use native.Mathlib.Omega.{arith}
 use lib.Dec.{leb, eqb}
 use Rattle.std.specs.List.{starts_with}
 use Rattle.std.proofs.lemmas.Cmp.{nat_eq_equiv}
-use lib.ListN.{length}
-use borrow.Author.Tests.{leb-true, eqb-true}
+use lib.ListN.{length, take}
+use lib.Seq.{get_or-take}
+use borrow.Author.Tests.{leb-true, eqb-true, eqb-false, eq-eqb, ne_eqb, le-leb, lt-leb}
+use Rattle.rules.specs.Refusals.{unless}
 use Rattle.rules.specs.Kinds.{faces_of}
 use Rattle.rules.specs.Sizes.{top, count}
 use Rattle.rules.proofs.Sides.{start-half}
 use Rattle.rules.proofs.Refusing.{or_else-none, unless-none, and_both, chain-facts, Chained}
-use Rattle.txr.specs.File.{word_at, marked, kind_in, width_in, height_in, size_in, header_refusal, longest, levels_refusal, length_refusal, file_refusal}
+use Rattle.txr.specs.File.{word_at, marked, kind_in, width_in, height_in, size_in, header_in, header_refusal, longest, levels_refusal, length_refusal, file_refusal}
 
 -- level 0 is a part of the chain
 pub size_le_count : (faces w h : ℕ) → 0 < w → 0 < h → faces * h * w ≤ count faces w h
@@ -54,17 +56,50 @@ file-facts b e =
       most = size-most b q.0;
     }
 
-and_last : (a b c d : Bool) → (a && (b && (c && d))) ≡ ((a && (b && (c && true))) && d)
-and_last true true true d = refl
-and_last true true false d = refl
-and_last true false c d = refl
-and_last false b c d = refl
+-- version 1 is the bytes 1 and 0
+version-one : (x y : ℕ) → eqb (x + y * 256) 1 ≡ (eqb 1 x && (eqb 0 y && true))
+version-one x y =
+    go (eqb 1 x) (eqb 0 y) refl refl
+  where
+    go : (a b : Bool) → eqb 1 x ≡ a → eqb 0 y ≡ b → eqb (x + y * 256) 1 ≡ (a && (b && true))
+    go true true p q = eq-eqb _ _ (omega (arith, eqb-true 1 x p, eqb-true 0 y q))
+    go true false p q = ne_eqb _ _ (λ e. eqb-false 0 y q (omega arith))
+    go false b p q = ne_eqb _ _ (λ e. eqb-false 1 x p (omega arith))
 
--- the mark as it stands in front, tested before the version
-pub marked_starts : (b : List ℕ) → 5 ≤ length b → marked b ≡ (starts_with eqb b (0x54 ∷ 0x58 ∷ 0x52 ∷ []) && eqb (word_at b 3) 1)
-unfolding marked
-marked_starts [] le = absurd (omega arith)
-marked_starts (x ∷ []) le = absurd (omega arith)
-marked_starts (x ∷ (y ∷ [])) le = absurd (omega arith)
-marked_starts (x ∷ (y ∷ (z ∷ rest))) le = rw (nat_eq_equiv.symm x 0x54, nat_eq_equiv.symm y 0x58, nat_eq_equiv.symm z 0x52)
-    (and_last (eqb 0x54 x) (eqb 0x58 y) (eqb 0x52 z) _)
+-- mark and version as they stand in front
+pub marked_starts : (b : List ℕ) → length b ≡ 10 → marked b ≡ starts_with eqb b (0x54 ∷ 0x58 ∷ 0x52 ∷ 1 ∷ 0 ∷ [])
+unfolding marked word_at
+marked_starts [] e = absurd (omega arith)
+marked_starts (x ∷ []) e = absurd (omega arith)
+marked_starts (x ∷ (y ∷ [])) e = absurd (omega arith)
+marked_starts (x ∷ (y ∷ (z ∷ []))) e = absurd (omega arith)
+marked_starts (x ∷ (y ∷ (z ∷ (v ∷ [])))) e = absurd (omega arith)
+marked_starts (x ∷ (y ∷ (z ∷ (v ∷ (w ∷ rest))))) e =
+    rw (nat_eq_equiv.symm x 0x54, nat_eq_equiv.symm y 0x58, nat_eq_equiv.symm z 0x52, version-one v w)
+
+-- the header of an input's first bytes
+module _ (n : ℕ) (b : List ℕ) (ten : 10 ≤ n) where
+  word-take : (i : ℕ) → i + 1 < 10 → word_at (take n b) i ≡ word_at b i
+  unfolding word_at
+  word-take i lt = rw (get_or-take n b i 0 (omega arith), get_or-take n b (i + 1) 0 (omega arith))
+
+  pub marked-take : marked (take n b) ≡ marked b
+  unfolding marked
+  marked-take = rw (get_or-take n b 0 0 (omega arith), get_or-take n b 1 0 (omega arith), get_or-take n b 2 0 (omega arith), word-take 3 (omega arith))
+
+  pub levels-take : levels_refusal (take n b) ≡ levels_refusal b
+  levels-take = rw (get_or-take n b 5 0 (omega arith), word-take 6 (omega arith), word-take 8 (omega arith))
+
+-- the same of the ten bytes that are split off
+pub header_of : (b front : List ℕ) → front ≡ take 10 b → header_in front ≡ header_in b
+header_of b front e =
+    rw (e, get_or-take 10 b 5 0 (omega arith), word-take 10 b (omega arith) 6 (omega arith), word-take 10 b (omega arith) 8 (omega arith))
+
+-- the header's refusal, of an input whose first ten bytes are split off
+pub header_front : (b front rest : List ℕ) → front ≡ take 10 b → length rest + 10 ≡ length b → header_refusal b ≡ unless (marked front) 12
+unfolding header_refusal
+header_front b front rest e long = rw (le-leb 10 (length b) (omega arith), e, marked-take 10 b (omega arith))
+
+pub header_short : (b : List ℕ) → length b < 10 → header_refusal b ≡ 12
+unfolding header_refusal
+header_short b lt = rw (lt-leb 10 (length b) lt)

@@ -23,7 +23,7 @@ use Rattle.rules.specs.declared.Refusal.TheVariants.{NotTheFile}
 use Rattle.rules.specs.Answers.{answer, refused, chain_answer, chain_leaves}
 use Rattle.rules.proofs.Answering.{given_none, given_is, number-some}
 use Rattle.rules.proofs.Numbers.{Known, known-or, known-unless, known-number, known-chain, known-answer}
-use Rattle.rules.proofs.Grid.{length-tab}
+use Rattle.rules.proofs.Grid.{length-tab, tab-ext}
 use Rattle.rules.proofs.Chain.{length-chain}
 use Rattle.rules.proofs.Sides.{side-le}
 use Rattle.rules.proofs.Bounds.{faces-some, top-most, level-end, size-some}
@@ -32,6 +32,9 @@ use Rattle.rules.proofs.Refusing.{chain-taken, answer-given, answer-refused}
 use Rattle.txr.specs.File.{kind_in, width_in, height_in, size_in, texel_in, level_in, longest, header_refusal, length_refusal, file_refusal}
 use Rattle.txr.specs.Digits.{places_of}
 use Rattle.txr.specs.Listing.{line_of, level_line, level_lines, file_lines, refused_line, listing_of}
+use Rattle.levels.specs.Crosses.{bytes_at}
+use Rattle.levels.proofs.Crosses.{bytes-behind}
+use borrow.Author.Rules.{part_to_end}
 use Rattle.txr.proofs.Files.{file-facts}
 use Rattle.txr.proofs.Spelling.{places_one, places_more, length-field, length-line}
 
@@ -76,6 +79,12 @@ module _ (kind w h : ℕ) (some-w : 1 ≤ w) (most-w : w ≤ 4096) (some-h : 1 �
 pub ruleset levels_within = (top-most, level-inside, level-most)
 
 -- ---- a file that is not refused
+
+-- the texels of what stands behind the header
+pub texels_behind : (b bytes : List ℕ) (n : ℕ) → bytes ≡ drop 10 b → tab n (bytes_at bytes) ≡ tab n (texel_in b)
+unfolding texel_in
+texels_behind b bytes n e =
+    tab-ext n _ _ (λ i lt. rw (e, ← part_to_end b 10) (bytes-behind 10 (10 + 4 * i) i b (omega arith)))
 
 -- what stands behind a chain takes no part in its lines
 lines-chain : (kind w h n : ℕ) (l rest : List ℕ) → count (faces_of kind) w h ≤ length l → n ≤ suc (top w h)

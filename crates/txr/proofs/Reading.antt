@@ -6,13 +6,13 @@ use Prim.Native.Nat.{ℕ, zero, suc, ◌+◌, ◌*◌, ◌≤◌, ◌<◌}
 use native.Mathlib.Decide.{dec_le}
 use native.Mathlib.Omega.{arith}
 use lib.ListN.{length, take}
-use lib.Seq.{take_all, length-take-le, get_or-take}
+use lib.Seq.{take_all, length-take-le}
 use borrow.Author.Tests.{le-leb, ne_eqb}
 use Rattle.rules.specs.Refusals.{◌or_else◌}
 use Rattle.rules.proofs.Refusing.{or_else-given, or_else-none, answer-refused}
-use Rattle.txr.specs.File.{word_at, marked, size_in, header_refusal, length_refusal, levels_refusal, file_refusal}
+use Rattle.txr.specs.File.{size_in, header_refusal, length_refusal, levels_refusal, file_refusal}
 use Rattle.txr.specs.Listing.{refused_line, listing_of}
-use Rattle.txr.proofs.Files.{size-most}
+use Rattle.txr.proofs.Files.{size-most, marked-take, levels-take}
 
 or_else-same : (n m k : ℕ) → (n ≡ 0 → m ≡ k) → (n or_else m) ≡ (n or_else k)
 or_else-same zero m k e = ap (λ (x : ℕ). 0 or_else x) (e refl)
@@ -38,21 +38,10 @@ module _ (b : List ℕ) (long : 65546 < length b) where
 
 -- the header of an input's first bytes
 module _ (n : ℕ) (b : List ℕ) (ten : 10 ≤ n) where
-  word-take : (i : ℕ) → i + 1 < 10 → word_at (take n b) i ≡ word_at b i
-  unfolding word_at
-  word-take i lt = rw (get_or-take n b i 0 (omega arith), get_or-take n b (i + 1) 0 (omega arith))
-
-  marked-take : marked (take n b) ≡ marked b
-  unfolding marked
-  marked-take = rw (get_or-take n b 0 0 (omega arith), get_or-take n b 1 0 (omega arith), get_or-take n b 2 0 (omega arith), word-take 3 (omega arith))
-
-  levels-take : levels_refusal (take n b) ≡ levels_refusal b
-  levels-take = rw (get_or-take n b 5 0 (omega arith), word-take 6 (omega arith), word-take 8 (omega arith))
-
   header-take : n ≤ length b → header_refusal (take n b) ≡ header_refusal b
   unfolding header_refusal
   header-take le =
-      rw (length-take-le n b le, le-leb 10 n ten, le-leb 10 (length b) (omega arith), marked-take)
+      rw (length-take-le n b le, le-leb 10 n ten, le-leb 10 (length b) (omega arith), marked-take n b ten)
 
 -- 65,547 bytes of an input give the listing of the whole
 pub reading : (b : List ℕ) → listing_of (take 65547 b) ≡ listing_of b

@@ -1,5 +1,5 @@
 // Numbers as text, in ASCII.
-// By hand: a `write!` promises its text only where it answers Ok, and no writer promises that it does.
+// By hand: `list` promises its text always and cannot fail; a `write!` promises it only where it answers Ok, and no writer promises that.
 ghost use Rattle.std.specs.Prelude.{◌≡◌, ◌+◌, ◌<◌, ◌≤◌, ◌++◌, length};
 ghost use Rattle.txr.specs.Digits.{digit_of, digits_of, places_of, decimal_of, hex_of};
 

@@ -6,15 +6,16 @@ ghost use Rattle.rules.specs.Answers.{answer, refused};
 ghost use Rattle.txr.specs.File.{file_refusal};
 ghost use Rattle.txr.specs.Listing.{level_line, level_lines, file_lines, listing_of};
 
-use crate::file::{load, picture_in};
+use crate::file::file_in;
 use crate::page::Page;
+use levels::bytes::put_bytes;
 use levels::chain::generate_mipmaps;
 use levels::lent::Chain;
 use levels::level::PictureLevel;
 use levels::picture::Picture;
 use rules::Refusal;
 
-// The line of level m.
+// The line of level m. A number, and no `PictureLevel`: that carries a picture of its own, and this would ask that it is the chain's.
 #[tactic(auto, using(crate::proofs::Listings::levels_within), unfolding(crate::specs::Listing::level_line))]
 fn level_line(chain: Chain, m: u32, page: &mut Page)
     requires level { m ≤ top chain.picture.width chain.picture.height }
@@ -30,6 +31,7 @@ fn level_line(chain: Chain, m: u32, page: &mut Page)
 }
 
 // One line a level.
+#[tactic(auto, unfolding(crate::specs::Listing::level_lines))]
 fn level_lines(chain: Chain) -> Page
     ensures { result ≡ level_lines (code_of chain.entry.picture.kind) chain.entry.picture.width chain.entry.picture.height chain.entry.texels.now (suc (top chain.entry.picture.width chain.entry.picture.height)) }
 {
@@ -45,14 +47,15 @@ fn level_lines(chain: Chain) -> Page
 fn list_levels(input: &[u8]) -> Result<Page, Refusal>
     ensures { result ≡ answer (file_refusal input.now) refused (Ok (file_lines input.now)) }
 {
-    let picture = picture_in(input)?;
+    let file = file_in(input)?;
+    let picture = file.picture;
     let Picture {
         kind,
         width,
         height,
     } = picture;
     let mut texels = [0u32; 16384];
-    load(input, &mut texels[..picture.level0()]);
+    put_bytes(file.texels, &mut texels[..picture.level0()]);
     generate_mipmaps(kind.code(), width, height, 0, &mut texels)?;
     Ok(level_lines(Chain {
         picture,
@@ -62,7 +65,7 @@ fn list_levels(input: &[u8]) -> Result<Page, Refusal>
 
 // What the listing program writes for what it read.
 #[tactic(auto, using(crate::proofs::Listings::listed))]
-fn listing(input: &[u8]) -> Page
+pub fn listing(input: &[u8]) -> Page
     ensures { result ≡ listing_of input.now }
 {
     match list_levels(input) {

@@ -3,7 +3,7 @@ ghost use Rattle.std.specs.Prelude.{◌≡◌, take, IfOk, IfSome, OnOk};
 ghost use Rattle.std.specs.Io.KnownBytes.{Appends};
 ghost use Rattle.txr.specs.Listing.{listing_of};
 
-use crate::listing::list;
+use crate::listing::listing;
 use std::alloc::Global;
 use std::io;
 use std::io::{Read, Write};
@@ -21,7 +21,5 @@ pub fn read_front<R: Read + Drop>(alloc: Global, reader: R, most: u64) -> io::Re
 pub fn write_listing<W: Write>(input: &[u8], writer: &mut W) -> io::Result<()>
     ensures { OnOk result (Appends (W.contents writer.old) (W.contents writer.new) (listing_of input.now)) }
 {
-    let mut out = [0u8; 512];
-    let r = list(input, &mut out);
-    writer.write_all(&out[..r])
+    writer.write_all(listing(input).written())
 }

@@ -12,13 +12,13 @@ module _ (c : goal.After-four_axes-y) where
   down = rw (c.four_axes-y.ensures, c.height.ensures) (axes-below _ _ _ c.args.on.sized.some-h)
 
 pub places-requires : goal.places-requires
-places-requires c = let k = (goal.at.places-requires c).After-four_axes-y in (c.requires.0, (across k).0, (down k).0)
+places-requires c = let k = (goal.at.places-requires c).After-four_axes-y in (c.requires, (across k).0, (down k).0)
 
 pub places-requires-2 : goal.places-requires-2
-places-requires-2 c = let k = (goal.at.places-requires-2 c).After-four_axes-y in (c.requires.0, (across k).1, (down k).0)
+places-requires-2 c = let k = (goal.at.places-requires-2 c).After-four_axes-y in (c.requires, (across k).1, (down k).0)
 
 pub places-requires-3 : goal.places-requires-3
-places-requires-3 c = let k = (goal.at.places-requires-3 c).After-four_axes-y in (c.requires.0, (across k).0, (down k).1)
+places-requires-3 c = let k = (goal.at.places-requires-3 c).After-four_axes-y in (c.requires, (across k).0, (down k).1)
 
 pub places-requires-4 : goal.places-requires-4
-places-requires-4 c = let k = (goal.at.places-requires-4 c).After-four_axes-y in (c.requires.0, (across k).1, (down k).1)
+places-requires-4 c = let k = (goal.at.places-requires-4 c).After-four_axes-y in (c.requires, (across k).1, (down k).1)

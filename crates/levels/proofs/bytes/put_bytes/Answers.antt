@@ -1,14 +1,9 @@
-use mathlib.Core.Path.{refl, ◌∙◌}
+use mathlib.Core.Path.{◌∙◌}
 use native.Mathlib.Omega.{arith}
 use native.Mathlib.Numerals.{add-one}
 use Rattle.std.proofs.lemmas.List.{take_more_set}
-use Rattle.rules.specs.Levels.{tab}
 use Rattle.rules.proofs.Grid.{tab-suc}
 use Rattle.levels.proofs.bytes.put_bytes.Goals as goal
-
-pub loop-i-init : goal.loop-i-init
-unfolding tab
-loop-i-init c = refl
 
 pub loop-i-preserved : goal.loop-i-preserved
 loop-i-preserved c =

@@ -1,6 +1,6 @@
 use native.Mathlib.Omega.{arith}
 use Rattle.reduce.proofs.Standing.{over-copied}
-use Rattle.levels.proofs.Cuts.{cut-first, cut-reads, cut-more, cut-end}
+use Rattle.levels.proofs.Cuts.{cut-first, cut_reads, cut-more, cut-end}
 use Rattle.levels.proofs.cut.write_cut.Goals as goal
 
 pub loop-y-init : goal.loop-y-init
@@ -8,20 +8,11 @@ loop-y-init c =
     let p = c.requires in
     cut-first _ _ _ _ _ _ _ p.across p.source_room p.target_room
 
-pub overflow_add-from : goal.overflow_add-from
-overflow_add-from c = omega (arith, cut-reads c.loop-y.invariant c.loop-y-test.true)
-
-pub overflow_mul-from : goal.overflow_mul-from
-overflow_mul-from c = omega (arith, cut-reads c.loop-y.invariant c.loop-y-test.true)
-
-pub overflow_add-from-in-loop-y : goal.overflow_add-from-in-loop-y
-overflow_add-from-in-loop-y c = omega (arith, cut-reads c.loop-y.invariant c.loop-y-test.true)
-
 pub loop-y-preserved : goal.loop-y-preserved
 loop-y-preserved c =
     let rows = c.loop-y.invariant in
     let below = c.loop-y-test.true in
-    cut-more rows below _ (over-copied _ _ _ c.loop-y.target c.args.source.now _ (omega (arith, cut-reads rows below)) c.copy_from_slice.ensures.after)
+    cut-more rows below _ (over-copied _ _ _ c.loop-y.target c.args.source.now _ (omega (arith, cut_reads rows below)) c.copy_from_slice.ensures.after)
 
 pub shape_of-target : goal.shape_of-target
 shape_of-target c = c.loop-y.invariant.rows.run.as_long

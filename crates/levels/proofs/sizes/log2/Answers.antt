@@ -1,11 +1,9 @@
--- `levels::sizes::log2` meets its contract: setting the lowest digit of n leaves floor(log2 n), and gives a number above 0, whose highest
--- set digit `leading_top` gives.
-use mathlib.Core.Path.{◌≡◌, ◌∙◌}
-use Prim.Native.Nat.{ℕ, ◌+◌, ◌*◌, ◌/◌, ◌^◌, ◌<◌}
+-- `levels::sizes::log2` meets its contract: setting the lowest digit of n leaves floor(log2 n), and gives a number above 0.
+use mathlib.Core.Path.{◌≡◌, sym, ◌∙◌}
+use Prim.Native.Nat.{ℕ, ◌+◌, ◌*◌, ◌/◌}
 use native.Mathlib.Decide.{dec_le}
 use native.Mathlib.Omega.{arith}
 use lib.Bits.{bit_or, or_step, or_zero_r}
-use lib.Count.{count_leading_zeros, leading_top}
 use Rattle.rules.specs.Sizes.{log2}
 use Rattle.rules.proofs.Sides.{log2-small, log2-half, log2-unique}
 use Rattle.levels.proofs.sizes.log2.Goals as goal
@@ -22,14 +20,10 @@ log2-odd n =
       | no f ↦ rw (log2-small n (omega arith), log2-small (n / 2 * 2 + 1) (omega arith))
     ]
 
-zeros : (n : ℕ) → n < 2 ^ 32 → count_leading_zeros 32 (bit_or n 1) + log2 n ≡ 31
-zeros n lt =
-    rw (or-one n)
-    (let t = leading_top 32 (n / 2 * 2 + 1) (omega arith) (omega arith) in
-    omega (arith, log2-unique (n / 2 * 2 + 1) t.0 t.2 t.3, log2-odd n))
-
-pub overflow_sub-result : goal.overflow_sub-result
-overflow_sub-result c = omega (arith, zeros c.args.n (omega arith))
+pub ilog2-requires : goal.ilog2-requires
+ilog2-requires c = omega (arith, or-one c.args.n)
 
 pub returns : goal.returns
-returns c = omega (arith, zeros c.args.n (omega arith))
+returns c =
+    let e = rw (or-one c.args.n) at c.ilog2.ensures in
+    sym (log2-unique _ c.ilog2.result e.power_le (omega arith)) ∙ log2-odd c.args.n

@@ -3,7 +3,7 @@ use mathlib.Core.Path.{◌≡◌, sym, ap, ◌∙◌, subst}
 use Rattle.std.specs.Prelude.{Ok}
 use lib.ListN.{length}
 use Rattle.rules.specs.Places.{plane_of}
-use Rattle.rules.specs.Refusals.{chain_refusal, bilinear_rgb_refusal}
+use Rattle.rules.specs.Refusals.{bilinear_rgb_refusal}
 use Rattle.rules.proofs.Refusing.{or_else-taken}
 use Rattle.rules.proofs.RefusingLookups.{BilinearRgb, bilinear-rgb-facts}
 use Rattle.rules.proofs.Answering.{told_none, given_none, given_is}
@@ -15,33 +15,38 @@ use Rattle.lookups.proofs.bilinear.sample_bilinear_rgb.Goals.{After-level_at, In
 
 -- past the refusals
 none : (c : goal.In_ok-by) → let a = c.args in bilinear_rgb_refusal a.kind a.width a.height (length a.texels.now) a.sampler a.u a.v a.level a.faces ≡ 0
-unfolding bilinear_rgb_refusal chain_refusal
+unfolding bilinear_rgb_refusal
 none c =
-    let given = c.in_ok-picture.ensures in
+    let given = c.in_ok-layout.ensures in
     let is = given.is in
-    let room = told_none _ (sym c.in_ok-layout.ensures.told) in
     let face = told_none _ (sym c.in_ok-check_faces.ensures) in
     let rest = given_none _ _ _ (sym c.in_ok-by.ensures) in
-    or_else-taken _ _ (or_else-taken _ _ (told_none _ (sym given.told)) (rw (is.0, is.1, is.2) at room)) (or_else-taken _ _ (rw is.0 at face) (rw (is.1, is.2) at rest))
+    or_else-taken _ _ (told_none _ (sym given.told)) (or_else-taken _ _ (rw is.0 at face) (rw (is.1, is.2) at rest))
 
 facts : (c : goal.In_ok-by) → let a = c.args in BilinearRgb a.kind a.width a.height (length a.texels.now) a.sampler a.u a.v a.level a.faces
 facts c = bilinear-rgb-facts _ _ _ _ _ _ _ _ _ (none c)
 
 -- the level and the modes
 at : (c : goal.After-level_at) → let a = c.args in (c.level_at.result.plane ≡ plane_of a.kind a.width a.height a.level) × (c.in_ok-by.by ≡ wrapping_of a.sampler)
-at c = let is = c.in_ok-picture.ensures.is in (c.level_at.ensures ∙ rw (c.in_ok-layout.ensures.is, is.0, is.1, is.2), given_is _ _ _ (sym c.in_ok-by.ensures))
+at c = let is = c.in_ok-layout.ensures.is in (c.level_at.ensures ∙ rw (is.0, is.1, is.2), given_is _ _ _ (sym c.in_ok-by.ensures))
 
 pub level_at-requires : goal.level_at-requires
 level_at-requires c =
-    let is = c.in_ok-picture.ensures.is in
-    rw (c.in_ok-layout.ensures.is, is.1, is.2) (facts (goal.at.level_at-requires c).In_ok-by).blended.below
+    let is = c.in_ok-layout.ensures.is in
+    rw (is.1, is.2) (facts (goal.at.level_at-requires c).In_ok-by).blended.below
+
+pub invariant_of-u : goal.invariant_of-u
+invariant_of-u c = record { taken = (facts (goal.at.invariant_of-u c).In_ok-by).blended.coordinates.along-u }
+
+pub invariant_of-v : goal.invariant_of-v
+invariant_of-v c = record { taken = (facts (goal.at.invariant_of-v c).In_ok-by).blended.coordinates.along-v }
 
 pub squares-at-requires : goal.squares-at-requires
 squares-at-requires c =
     let a = c.args in
     let f = facts (goal.at.squares-at-requires c).In_ok-by in
     let e = at (goal.at.squares-at-requires c).After-level_at in
-    (level-faces a.kind a.width a.height a.texels.now a.sampler a.u a.v a.level e.0 e.1 _ (faces-below _ _ f.faces), f.blended.coordinates)
+    level-faces a.kind a.width a.height a.texels.now a.sampler a.u a.v a.level e.0 e.1 _ (faces-below _ _ f.faces)
 
 pub squares_rgb-requires : goal.squares_rgb-requires
 squares_rgb-requires c =

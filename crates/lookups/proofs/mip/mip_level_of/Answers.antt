@@ -1,6 +1,6 @@
 -- `lookups::mip::mip_level_of` meets its contract: no picture has more than thirteen levels.
 use native.Mathlib.Omega.{arith}
-use Rattle.places.proofs.Fours.{top-most}
+use Rattle.rules.proofs.Bounds.{top-most}
 use Rattle.lookups.proofs.mip.mip_level_of.Goals as goal
 
 pub invariant_of-top : goal.invariant_of-top

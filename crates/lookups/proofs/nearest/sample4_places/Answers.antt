@@ -31,8 +31,11 @@ invariant_of-height c = let s = c.args.picture.sides in record { is = (s.some-h,
 pub level_at-requires : goal.level_at-requires
 level_at-requires c = rw (c.in_ok-layout.ensures.is, c.mip_level_of-level.ensures) (mip-below _ _ _)
 
-pub nearest_places-requires : goal.nearest_places-requires
-nearest_places-requires c = coordinates-facts _ _ (told_none _ (sym c.in_ok-check_coordinates.ensures))
+pub invariant_of-u : goal.invariant_of-u
+invariant_of-u c = record { taken = (coordinates-facts _ _ (told_none _ (sym c.in_ok-check_coordinates.ensures))).along-u }
+
+pub invariant_of-v : goal.invariant_of-v
+invariant_of-v c = record { taken = (coordinates-facts _ _ (told_none _ (sym c.in_ok-check_coordinates.ensures))).along-v }
 
 pub returns : goal.returns
 unfolding sample4_four wrapping_of

@@ -1,7 +1,5 @@
 -- `places::level::footprint` meets its contract: the same sums.
-use mathlib.Core.Path.{refl}
 use native.Mathlib.Omega.{arith}
-use Rattle.rules.specs.Footprint.{footprint_of}
 use Rattle.texel.proofs.Coord.{side-float}
 use Rattle.places.proofs.level.footprint.Goals as goal
 
@@ -10,7 +8,3 @@ int_to_float-wide c = side-float _ (let h = c.args.width.is.1 in omega arith)
 
 pub int_to_float-high : goal.int_to_float-high
 int_to_float-high c = side-float _ (let h = c.args.height.is.1 in omega arith)
-
-pub returns : goal.returns
-unfolding footprint_of
-returns c = refl

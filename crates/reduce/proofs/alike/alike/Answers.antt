@@ -1,14 +1,11 @@
-use mathlib.Core.Path.{sym, ap, ◌∙◌}
-use native.Mathlib.Nat.{zero-add}
-use native.Mathlib.Omega.{arith}
-use lib.ListN.{get_or}
-use Rattle.kinds.proofs.Runs.{over_first}
-use Rattle.reduce.proofs.Standing.{stands-more}
+-- `reduce::alike::alike` meets its contract: what `position` finds of the pairs.
+use Rattle.std.proofs.Common.{rules, tests}
+use Rattle.std.proofs.lemmas.Iterator.{YieldsList-from_slice, YieldsList-from_zip, IsFirst-from_position}
+use Rattle.reduce.proofs.Standing.{Alike, Unlike, first-unlike}
 use Rattle.reduce.proofs.alike.alike.Goals as goal
 
-pub loop-k-init : goal.loop-k-init
-loop-k-init c = over_first _ _ _ (omega arith)
-
-pub loop-k-preserved : goal.loop-k-preserved
-loop-k-preserved c =
-    stands-more c.loop-k.invariant (omega arith) (ap (λ i. get_or c.args.c.now i 0) (zero-add c.loop-k.k) ∙ sym c.if-made-k.false)
+pub returns : goal.returns
+returns c =
+    first-unlike _ _ _ c.requires
+    (IsFirst-from_position c.position.new.self _ _ Unlike Alike c.position.ensures.ran
+    (YieldsList-from_zip (YieldsList-from_slice c.args.made.now cc) (YieldsList-from_slice c.args.c.now cc)) (λ x q k. search (rules, tests)) (λ x q k. search (rules, tests)))

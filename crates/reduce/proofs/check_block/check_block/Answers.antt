@@ -7,6 +7,7 @@ use lib.ListN.{length}
 use Rattle.rules.specs.Sizes.{half}
 use Rattle.rules.specs.Levels.{next}
 use Rattle.rules.proofs.Chain.{length-next}
+use Rattle.reduce.proofs.Standing.{wrong-by}
 use Rattle.reduce.proofs.StandingLevels.{made-next, block-right}
 use Rattle.reduce.proofs.check_block.check_block.Goals as goal
 
@@ -22,5 +23,6 @@ returns g c =
     let high : 1 * half (2 * a.m) ≡ a.m = one-mul (half (2 * a.m)) ∙ omega arith in
     let long : length (next reduce 1 a.w (2 * a.m) a.above.now) ≡ length a.c.now =
     length-next reduce 1 a.w (2 * a.m) a.above.now ∙ ap (λ (k : ℕ). k * half a.w) high ∙ sym rows.1 in
-    block-right reduce a.w a.m _ a.above.now block.0 block.1 block.2 few rows.0 rows.1
-    (made-next _ _ _ (next reduce 1 a.w (2 * a.m) a.above.now) (rw (n.0, n.1, n.2) at c.make_next.ensures) long c.alike.ensures)
+    wrong-by
+    (λ r t. block-right reduce a.w a.m _ a.above.now block.0 block.1 block.2 few rows.0 rows.1
+    (made-next _ _ _ (next reduce 1 a.w (2 * a.m) a.above.now) (rw (n.0, n.1, n.2) at c.make_next.ensures) long t)) c.alike.ensures

@@ -4,7 +4,7 @@ use Prim.Native.Nat.{◌*◌}
 use native.Mathlib.Omega.{arith}
 use Rattle.rules.specs.Sizes.{half}
 use Rattle.reduce.proofs.Rows.{row-long}
-use Rattle.reduce.proofs.Standing.{right-part}
+use Rattle.reduce.proofs.Standing.{right-part, wrong-by}
 use Rattle.reduce.proofs.check_level.check_next.Goals as goal
 
 pub returns : goal.returns
@@ -15,5 +15,5 @@ returns g c =
     let k = c.size-n.ensures in
     let room = c.args.pair.room in
     rw (← k, ← m)
-    (right-part c.size-n.result c.args.pair.texels.now (omega (arith, room, k, m))
+    (wrong-by (λ r t. right-part c.size-n.result c.args.pair.texels.now (omega (arith, room, k, m)) t)
     (rw (row-long c.size-m.result c.size-n.result c.args.pair.texels.now (omega (arith, room, k, m))) at c.check_level.ensures))

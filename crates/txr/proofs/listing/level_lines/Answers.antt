@@ -10,10 +10,6 @@ use Rattle.txr.proofs.Listings.{lines-short}
 use Rattle.txr.proofs.listing.level_lines.Goals as goal
 use Rattle.txr.proofs.listing.level_lines.Goals.{After-level_line}
 
-pub loop-m-init : goal.loop-m-init
-unfolding level_lines
-loop-m-init c = c.new-page.ensures
-
 pub level_line-requires-clause-page : goal.level_line-requires-clause-page
 level_line-requires-clause-page c =
     let p = c.args.chain.picture in

@@ -14,8 +14,13 @@ words s = record { first = search rules; second = search rules; third = search r
 
 reds : (c : goal.After-sums) → let q = c.args.q in Halved c.sums.result (sum_of red_of q) (sum_of blue_of q)
 reds c =
+    let q = c.args.q in
     let h = c.map.ensures in
-    red-blue c.args.q (words (goal.at.After-sums c).Start) _ (c.sums.ensures ∙ rw (h.first, h.second, h.third, h.fourth) (omega arith))
+    let a : c.map.result.p00 ≡ green_of (q.p00 / 256) * 65536 + alpha_of (q.p00 / 256) = search rules in
+    let b : c.map.result.p10 ≡ green_of (q.p10 / 256) * 65536 + alpha_of (q.p10 / 256) = search rules in
+    let d : c.map.result.p01 ≡ green_of (q.p01 / 256) * 65536 + alpha_of (q.p01 / 256) = search rules in
+    let e : c.map.result.p11 ≡ green_of (q.p11 / 256) * 65536 + alpha_of (q.p11 / 256) = search rules in
+    red-blue q (words (goal.at.After-sums c).Start) _ (c.sums.ensures ∙ rw (a, b, d, e) (omega arith))
 
 greens : (c : goal.After-sums-2) → let q = c.args.q in Halved c.sums-2.result (sum_of green_of q) (sum_of alpha_of q)
 greens c =

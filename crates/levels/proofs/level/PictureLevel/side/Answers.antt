@@ -1,12 +1,7 @@
 -- `levels::level::PictureLevel::side` meets its contract: no level is above 12.
 use native.Mathlib.Omega.{arith}
-use Rattle.rules.specs.Sizes.{side_at}
 use Rattle.levels.proofs.Starts.{level-few}
 use Rattle.levels.proofs.level.PictureLevel.side.Goals as goal
 
 pub overflow_shr-side : goal.overflow_shr-side
 overflow_shr-side c = omega (arith, level-few c.args.self)
-
-pub returns : goal.returns
-unfolding side_at
-returns c = omega (arith, c.max.ensures)
