@@ -19,7 +19,7 @@ pub fn byte(packing: Packing, p: Quad<u8>) -> u8
     pack(packing, mean(p.map(unpack)))
 }
 
-// Normal's has this text too, but for `byte`: a trait that named the byte's rule would be longer than the two.
+// Normal's has this text too, but for its rule and `byte`: a trait that named the byte's rule would be longer than the two.
 impl Reduce for Linear {
     ghost rule = { λ it. linear_of it.packing };
 

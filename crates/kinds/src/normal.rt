@@ -27,7 +27,7 @@ fn byte(packing: Packing, p: Quad<u8>) -> u8
     pack(packing, (mean(p.map(spread)) + 1.0) / 2.0)
 }
 
-// Linear's has this text too, but for `byte`: a trait that named the byte's rule would be longer than the two.
+// Linear's has this text too, but for its rule and `byte`: a trait that named the byte's rule would be longer than the two.
 impl Reduce for Normal {
     ghost rule = { λ it. normal_of it.packing };
 

@@ -73,7 +73,7 @@ module _ {faces w h w2 h2 : ℕ} {l : List ℕ} (t : Level faces w h w2 h2 l) (y
         rw (e.0, e.1, ← run.firsts (k / half w) j, ← run.seconds (k / half w) j)
         (held-cell t reduce (y + k / half w) row (k % half w) i ∙ ap (cell_of reduce w h w2 h2 l) place)
 
-    -- and right up to their texel r
+    -- and what was found of them, behind y rows that stand
     module _ (reduce : ℕ → ℕ → ℕ → ℕ → ℕ) {c : List ℕ} (long : length c ≡ faces * h2 * w2) (o : Over 0 c (y * w2) (cell_of reduce w h w2 h2 l) c) where
       part : {r : Option ℕ} → FirstWrong 0 (row_at (m * w2) (y * w2) c) (m * w2) (rows_of reduce w a b l) r → FirstWrong (y * w2) c (m * w2) (rows_of reduce w a b l) r
       part t = wrong-by (λ r u. right-part (y * w2) c (omega (arith, room_for, long)) u) t
