@@ -14,7 +14,7 @@ use reduce::shape::Followed;
 use rules::{Packing, Refusal};
 
 impl Chain<'_> {
-    // One level's verdict. Level 0 always follows.
+    // One level's verdict. Level 0 always follows. A number, as `Layout::plane` takes one.
     fn level_verdict(self, packing: Packing, level: u32) -> Option<usize>
         requires { level ≤ top self.picture.width self.picture.height }
         ensures { result ≡ level_verdict_of (code_of self.entry.picture.kind) packing self.entry.picture.width self.entry.picture.height self.entry.texels.now level }

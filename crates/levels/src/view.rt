@@ -54,7 +54,7 @@ pub fn level_view_refusal(
     Ok(())
 }
 
-// The texels of one face of a level, and an empty part where it refuses.
+// The texels of one face of a level, and an empty part where it refuses: no `Result`, since `view_answer` is a part, and the call above says why.
 pub fn level_view<'a>(
     kind: u32,
     width: u32,

@@ -15,6 +15,7 @@ pub struct Top {
 }
 
 // X, Y the first two steps times width and Z, W the last two times height: ((X*X + Z*Z) + (Y*Y + W*W)) * 0.5.
+// Sides and steps are the call's own arguments, taken as they come: a type of them would be made for three functions in a row.
 #[tactic(auto, unfolding(rules::specs::Footprint::footprint_of))]
 fn footprint(width: Side, height: Side, steps: Lanes) -> f32
     ensures { result ≡ footprint_of width.texels height.texels steps }

@@ -74,7 +74,7 @@ pub fn listing(input: &[u8]) -> Page
     }
 }
 
-// The same at the front of `out`. Answers how many bytes that is.
+// The same at the front of `out`. Answers how many bytes that is: so it has promised, where a part of `out` would do.
 pub fn list(input: &[u8], out: &mut [u8; 512]) -> usize
     ensures answer { result ≡ length (listing_of input.now) }
     ensures leaves { out.new ≡ listing_of input.now ++ drop result out.old }
