@@ -21,7 +21,7 @@ fn spread(byte: u8) -> f32
 }
 
 // One channel.
-fn byte(packing: Packing, p: Quad<u8>) -> u8
+pub fn byte(packing: Packing, p: Quad<u8>) -> u8
     ensures { result ≡ normal_byte packing p.p00 p.p10 p.p01 p.p11 }
 {
     pack(packing, (mean(p.map(spread)) + 1.0) / 2.0)

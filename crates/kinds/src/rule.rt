@@ -1,6 +1,8 @@
 // A way to make one texel of four, and a row of such texels from the two rows above.
 ghost use Rattle.std.specs.Prelude.{◌≡◌, true, ℕ, ◌*◌, ◌<◌, ◌≤◌, length, get_or};
+ghost use Rattle.rules.specs.declared.Packing.TheVariants.{Nearest};
 ghost use Rattle.rules.specs.Levels.{tab};
+ghost use Rattle.rules.specs.Reducing.{linear_of};
 ghost use Rattle.kinds.specs.Runs.{pairs_of};
 
 use crate::above::{Rows, Standing};
@@ -14,8 +16,11 @@ pub trait Reduce {
     fn reduced(&self, q: Quad<u32>) -> u32
         ensures { result ≡ rule self.now q.p00 q.p10 q.p01 q.p11 };
 
-    // Whether `all_right` may answer `true`. A flag beside an answer: it is asked before any texel is looked at, to size the blocks.
-    fn tells(&self) -> bool {
+    // Whether `all_right` may answer `true`: whole numbers tell a right texel. A flag beside an answer: it is asked before any texel is looked
+    // at, to size the blocks.
+    fn tells(&self) -> bool
+        ensures { (result ≡ true) → rule self.now ≡ linear_of Nearest }
+    {
         false
     }
 

@@ -4,7 +4,7 @@ ghost use Rattle.rules.specs.Sizes.{half};
 ghost use Rattle.rules.specs.Levels.{next};
 ghost use Rattle.reduce.specs.Right.{FirstWrong, NextFirstWrong};
 
-use crate::check_block::{check_rows, together};
+use crate::check_block::{check_rows, in_blocks, together};
 use crate::shape::{Followed, Shape};
 use kinds::rule::Reduce;
 
@@ -17,10 +17,11 @@ fn check_level<R: Reduce>(rule: &R, shape: Shape, level: &[u32], c: &[u32]) -> O
     let below = shape.next();
     let w2 = below.width;
     let rows = below.faces * below.height;
+    let blocks = in_blocks(rule, shape);
     let mut y = 0;
     // A while: it goes on by the rows that are looked at together.
     while y < rows {
-        let m = together(rule, shape, y);
+        let m = together(blocks, shape, y);
         let above = shape.rows_above(y);
         let at = y * w2;
         let part = &c[at..at + m * w2];

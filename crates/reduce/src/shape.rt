@@ -58,6 +58,20 @@ fn second(y: usize, h: usize) -> usize
     (2 * y + 1).min(h - 1)
 }
 
+// Where those of row y start, counted through all faces, each h2 high in the next level: rows y0 and y1 of its own face.
+pub fn rows_above(y: usize, w: usize, h: usize, h2: usize) -> Above
+    requires { (1 ≤ h) × (h ≤ 4096) × (w ≤ 4096) × (h2 ≡ half h) × (y < 24576) }
+    ensures { (result.first ≡ first_row w h h2 y) × (result.second ≡ second_row w h h2 y) }
+{
+    let top = y / h2 * h;
+    let i = y % h2;
+    let j = second(i, h);
+    Above {
+        first: (top + 2 * i) * w,
+        second: (top + j) * w,
+    }
+}
+
 impl Shape {
     // It asks for the sides, since it makes the value whose ghost field says them.
     pub fn new(faces: usize, width: usize, height: usize) -> Shape
@@ -89,21 +103,12 @@ impl Shape {
         }
     }
 
-    // Those of row y, counted through all faces: rows y0 and y1 of its own face.
-    // y stands beside its shape, here and in `together`: a loop's test says that it is a row, and a type for both would say it again.
+    // Those of row y of the next level.
+    // y stands beside its shape: a loop's test says that it is a row, and a type for both would say it again.
     pub fn rows_above(self, y: usize) -> Above
         requires { y < 24576 }
         ensures { (result.first ≡ first_row self.width self.height (half self.height) y) × (result.second ≡ second_row self.width self.height (half self.height) y) }
     {
-        let w = self.width;
-        let h = self.height;
-        let h2 = halved(h);
-        let top = y / h2 * h;
-        let i = y % h2;
-        let j = second(i, h);
-        Above {
-            first: (top + 2 * i) * w,
-            second: (top + j) * w,
-        }
+        rows_above(y, self.width, self.height, halved(self.height))
     }
 }

@@ -1,7 +1,7 @@
 -- `reduce::check_block::check_block` meets its contract: the level after the rows above is made and compared.
 use mathlib.Core.Path.{◌≡◌, sym, ap, ◌∙◌}
 use Prim.Native.Nat.{ℕ, ◌*◌, ◌≤◌}
-use native.Mathlib.Nat.{one-mul, mul-le-mul_left}
+use native.Mathlib.Nat.{one-mul, mul-le-mul_left, mul-le-mul_right}
 use native.Mathlib.Omega.{arith}
 use lib.ListN.{length}
 use Rattle.rules.specs.Sizes.{half}
@@ -19,10 +19,11 @@ returns g c =
     let rows = c.requires.rows in
     let reduce = g.R.Reduce.rule a.rule.now in
     let some : 1 ≤ half a.w = omega arith in
+    let wide : a.w ≤ 4096 = omega (arith, block, mul-le-mul_right (half a.w) block.1) in
     let few : a.m ≤ 2048 = omega (arith, block, mul-le-mul_left a.m some) in
     let high : 1 * half (2 * a.m) ≡ a.m = one-mul (half (2 * a.m)) ∙ omega arith in
     let long : length (next reduce 1 a.w (2 * a.m) a.above.now) ≡ length a.c.now =
     length-next reduce 1 a.w (2 * a.m) a.above.now ∙ ap (λ (k : ℕ). k * half a.w) high ∙ sym rows.1 in
     wrong-by
-    (λ r t. block-right reduce a.w a.m _ a.above.now block.0 block.1 block.2 few rows.0 rows.1
+    (λ r t. block-right reduce a.w a.m _ a.above.now block.0 wide block.1 few rows.0 rows.1
     (made-next _ _ _ (next reduce 1 a.w (2 * a.m) a.above.now) (rw (n.0, n.1, n.2) at c.make_next.ensures) long t)) c.alike.ensures

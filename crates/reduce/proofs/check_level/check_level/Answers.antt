@@ -47,7 +47,6 @@ check_rows-requires-clause-room g c =
     let at = places (known g (goal.at.check_rows-requires-clause-room g c).After-next-below) c.loop-y.y (omega arith) in
     let above = c.rows_above-above.ensures in (
       sides.some-w,
-      sides.most-w,
       some,
       omega (arith, above, at.texels0),
       omega (arith, above, at.texels1),
