@@ -65,11 +65,7 @@ impl PictureLevel {
         ensures { result ≡ start (faces_of (code_of self.picture.kind)) self.picture.width self.picture.height (self.number + 1) }
     {
         let picture = self.picture;
-        start_of(
-            picture.kind.faces(),
-            picture.width,
-            picture.height,
-            self.number + 1,
-        )
+        let above = self.number + 1;
+        start_of(picture.kind.faces(), picture.width, picture.height, above)
     }
 }
