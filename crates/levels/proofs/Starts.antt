@@ -11,6 +11,7 @@ use Rattle.rules.specs.Sizes.{side_at, top, size_at, start}
 use Rattle.rules.proofs.Bounds.{level0-most, top-most}
 use Rattle.kinds.specs.Runs.{over}
 use Rattle.kinds.proofs.Runs.{length_over, over-within}
+use Rattle.reduce.specs.Levels.{Sides}
 use Rattle.levels.specs.Starts.{Started}
 use Rattle.levels.specs.declared.level.PictureLevel.{PictureLevel}
 
@@ -39,5 +40,8 @@ started {faces} {w} {h} old long pf pw ph most e =
     })
 
 -- no level is above 12
+pub top-few : {F w h : ℕ} → Sides F w h → top w h ≤ 12
+top-few {w} {h} s = top-most w h s.some-w s.most-w s.most-h
+
 pub level-few : (l : PictureLevel) → l.number ≤ 12
-level-few l = let s = l.picture.sides in omega (arith, l.within, top-most l.picture.width l.picture.height s.some-w s.most-w s.most-h)
+level-few l = omega (arith, l.within, top-few l.picture.sides)

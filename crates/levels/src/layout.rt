@@ -1,13 +1,11 @@
-// Where every level of a chain starts, in one walk over its levels, and that the chain lies within what is lent.
-ghost use Rattle.std.specs.Prelude.{◌≡◌, ◌+◌};
+// Where every level of a picture's chain starts, and that the chain lies within what is lent.
 ghost use Rattle.rules.specs.Kinds.{faces_of, code_of};
-ghost use Rattle.rules.specs.Sizes.{top, start, count};
-ghost use Rattle.kinds.specs.Runs.{over};
 ghost use Rattle.levels.specs.Starts.{Started};
 
 use crate::level::PictureLevel;
 use crate::picture::Picture;
 use crate::refusals::check_room;
+use crate::walk::starts_of;
 use rules::{Plane, Refusal};
 
 #[derive(Clone, Copy)]
@@ -31,7 +29,8 @@ impl Layout {
         ensures room { IfOk result (λ _. count (faces_of (code_of picture.kind)) picture.width picture.height ≤ n) }
     {
         let mut starts = [0u32; 13];
-        let total = starts_of(picture, &mut starts);
+        let faces = picture.kind.faces() as u32;
+        let total = starts_of(faces, picture.width, picture.height, &mut starts);
         check_room(total as usize, n)?;
         Ok(Layout { picture, starts })
     }
@@ -54,25 +53,4 @@ impl Layout {
             height: at.height() as usize,
         }
     }
-}
-
-// Writes the starts of a picture's levels in their order, and answers the whole chain's texels. Up to the top level the larger side
-// only halves: held to 1 as well, it made the walk take 143 instructions at 512 square in place of 125.
-// An out parameter beside the answer: the array is filled in place, in the frame of the one that keeps it.
-fn starts_of(picture: Picture, starts: &mut [u32; 13]) -> u32
-    ensures total { result ≡ count (faces_of (code_of picture.kind)) picture.width picture.height }
-    ensures leaves { starts.new ≡ over 0 starts.old (top picture.width picture.height + 1) (start (faces_of (code_of picture.kind)) picture.width picture.height) }
-{
-    let faces = picture.kind.faces() as u32;
-    let levels = picture.top_level() as usize + 1;
-    let mut larger = picture.width.max(picture.height);
-    let mut smaller = picture.width.min(picture.height);
-    let mut at = 0;
-    for start in &mut starts[..levels] {
-        *start = at;
-        at += faces * larger * smaller;
-        larger /= 2;
-        smaller = (smaller / 2).max(1);
-    }
-    at
 }

@@ -1,8 +1,9 @@
-// A level of a picture: its sides, how many texels it has, and where it starts in the chain.
+// A level of a picture: its sides, and where it starts and ends in the chain.
 ghost use Rattle.std.specs.Prelude.{◌≤◌};
 ghost use Rattle.rules.specs.Sizes.{top};
 
 use crate::picture::Picture;
+use crate::sizes::{side_at, start_of};
 use reduce::shape::Shape;
 
 #[derive(Clone, Copy)]
@@ -15,14 +16,13 @@ pub struct PictureLevel {
 impl PictureLevel {
     ghost use Rattle.std.specs.Prelude.{◌≡◌, ◌+◌};
     ghost use Rattle.rules.specs.Kinds.{faces_of, code_of};
-    ghost use Rattle.rules.specs.Sizes.{side_at, size_at, start};
+    ghost use Rattle.rules.specs.Sizes.{side_at, start};
 
-    // A side of the picture at the level: shifted right by its number, and at least 1.
-    #[tactic(auto, unfolding(rules::specs::Sizes::side_at))]
+    // A side of the picture at the level.
     fn side(self, side: u32) -> u32
         ensures { result ≡ side_at self.number side }
     {
-        (side >> self.number).max(1)
+        side_at(side, self.number)
     }
 
     pub fn width(self) -> u32
@@ -47,30 +47,25 @@ impl PictureLevel {
         )
     }
 
-    // How many texels it has.
-    #[tactic(auto, unfolding(rules::specs::Sizes::size_at))]
-    fn size(self) -> usize
-        ensures { result ≡ size_at (faces_of (code_of self.picture.kind)) self.picture.width self.picture.height self.number }
-    {
-        self.shape().size()
-    }
-
-    // Where it starts: levels follow each other without gaps. Beside `layout::starts_of`: one level's start, with no table of them all.
+    // Where it starts.
     pub fn start(self) -> usize
         ensures { result ≡ start (faces_of (code_of self.picture.kind)) self.picture.width self.picture.height self.number }
     {
         let picture = self.picture;
-        let mut at = 0;
-        for number in 0..self.number {
-            at += PictureLevel { picture, number }.size();
-        }
-        at
+        start_of(
+            picture.kind.faces(),
+            picture.width,
+            picture.height,
+            self.number,
+        )
     }
 
     // Where it ends, and the level above it starts.
     pub fn end(self) -> usize
         ensures { result ≡ start (faces_of (code_of self.picture.kind)) self.picture.width self.picture.height (self.number + 1) }
     {
-        self.start() + self.size()
+        let picture = self.picture;
+        let above = self.number + 1;
+        start_of(picture.kind.faces(), picture.width, picture.height, above)
     }
 }

@@ -13,3 +13,4 @@ pub mod picture;
 pub mod refusals;
 pub mod sizes;
 pub mod view;
+pub mod walk;

@@ -3,9 +3,8 @@
 ghost use Rattle.reduce.specs.Levels.{Sides};
 ghost use Rattle.rules.specs.Kinds.{faces_of, code_of};
 
-use crate::level::PictureLevel;
-use crate::refusals::check_sides;
-use crate::sizes::top_level;
+use crate::refusals::{check_level, check_sides};
+use crate::sizes::{count_of, top_level};
 use reduce::shape::Shape;
 use rules::{Kind, Refusal};
 
@@ -61,29 +60,18 @@ impl Picture {
     }
 
     // The whole chain's texels.
-    #[tactic(auto, unfolding(rules::specs::Sizes::count))]
     pub fn count(self) -> usize
         ensures { result ≡ count (faces_of (code_of self.kind)) self.width self.height }
     {
-        let number = self.top_level();
-        PictureLevel {
-            picture: self,
-            number,
-        }
-        .end()
+        count_of(self.kind.faces(), self.width, self.height)
     }
 
     // 6: level above the top level.
-    #[tactic(auto, unfolding(rules::specs::Refusals::level_refusal, rules::specs::Refusals::refusal_of, rules::specs::Answers::answer))]
     pub fn check_level(self, level: u32) -> Result<(), Refusal>
         ensures told { result ≡ told (level_refusal self.width self.height level) }
         ensures below { IfOk result (λ _. (level ≤ top self.width self.height) × (level ≤ 12)) }
     {
-        if level <= self.top_level() {
-            Ok(())
-        } else {
-            Err(Refusal::LevelAbove)
-        }
+        check_level(self.width, self.height, level)
     }
 
     // 8: a cubemap, to a call that does not take it. Beside `check_cubemap`: two refusals of document 01 with one number.

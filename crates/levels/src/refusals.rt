@@ -1,8 +1,10 @@
 // Tests that refuse: each gives its refusal exactly when it fails.
 ghost use Rattle.std.specs.Prelude.{◌≡◌, ◌&&◌, ◌≤◌, IfOk};
-ghost use Rattle.rules.specs.Refusals.{side_taken, sides_refusal, buffer_refusal};
+ghost use Rattle.rules.specs.Sizes.{top};
+ghost use Rattle.rules.specs.Refusals.{side_taken, sides_refusal, level_refusal, buffer_refusal};
 ghost use Rattle.rules.specs.Answers.{told};
 
+use crate::sizes::top_level;
 use rules::Refusal;
 
 // A side is 1 to 4,096.
@@ -28,6 +30,19 @@ pub fn check_sides(width: u32, height: u32) -> Result<(), Refusal>
         Ok(())
     } else {
         Err(Refusal::SideOutside)
+    }
+}
+
+// 6: level above the top level.
+#[tactic(auto, unfolding(rules::specs::Refusals::level_refusal, rules::specs::Refusals::refusal_of, rules::specs::Answers::answer))]
+pub fn check_level(width: u32, height: u32, level: u32) -> Result<(), Refusal>
+    ensures told { result ≡ told (level_refusal width height level) }
+    ensures below { IfOk result (λ _. level ≤ top width height) }
+{
+    if level <= top_level(width, height) {
+        Ok(())
+    } else {
+        Err(Refusal::LevelAbove)
     }
 }
 

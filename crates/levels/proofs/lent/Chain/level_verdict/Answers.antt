@@ -33,7 +33,7 @@ pub offset_bounds-self-start : goal.offset_bounds-self-start
 offset_bounds-self-start c = omega (arith, fits (goal.at.offset_bounds-self-start c).After-start)
 
 pub slice_bounds-pair-count : goal.slice_bounds-pair-count
-slice_bounds-pair-count c = fits (goal.at.slice_bounds-pair-count c).After-start
+slice_bounds-pair-count c = omega (arith, fits (goal.at.slice_bounds-pair-count c).After-start)
 
 pub slice_bounds-pair-start : goal.slice_bounds-pair-start
 slice_bounds-pair-start c = omega (arith, fits (goal.at.slice_bounds-pair-start c).After-start)
@@ -44,7 +44,7 @@ invariant_of-pair c =
     let s = c.shape.ensures in
     record {
       room =
-          rw (part_to_end _ c.start.result, length-drop, c.start.ensures, s.0, s.1, s.2)
+          rw (part_to_end _ _, length-drop, c.start.ensures, s.0, s.1, s.2)
           (omega (arith, k.starts, k.ends, k.inside));
     }
 
@@ -72,7 +72,7 @@ found c =
     let before = c.start in
     let s = c.shape.ensures in
     judged (reduce_of K a.packing) (faces_of K) p.width p.height a.level a.self.texels.now c.check_next.result (omega arith) (known (goal.at.After-check_next c).Else-level-lt1)
-    (rw (part_to_end a.self.texels.now before.result, before.ensures, s.0, s.1, s.2) at c.check_next.ensures)
+    (rw (part_to_end _ _, before.ensures, s.0, s.1, s.2) at c.check_next.ensures)
 
 pub returns-in_err-wrong : goal.returns-in_err-wrong
 returns-in_err-wrong c = c.from_residual.ensures ∙ rw c.in_err-wrong.was at (found (goal.at.returns-in_err-wrong c).After-check_next)

@@ -3,5 +3,5 @@ use native.Mathlib.Omega.{arith}
 use Rattle.levels.proofs.Starts.{level-few}
 use Rattle.levels.proofs.level.PictureLevel.side.Goals as goal
 
-pub overflow_shr-side : goal.overflow_shr-side
-overflow_shr-side c = omega (arith, level-few c.args.self)
+pub side_at-requires : goal.side_at-requires
+side_at-requires c = omega (arith, level-few c.args.self)
