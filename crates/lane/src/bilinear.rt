@@ -27,8 +27,10 @@ pub fn squares(
     requires { Below on.plane.faces faces }
     ensures { result ≡ squares_at on.plane faces by.s by.t u.lanes v.lanes }
 {
-    let x = four_axes(by.s, u, on.width());
-    let y = four_axes(by.t, v, on.height());
+    let width = on.width();
+    let height = on.height();
+    let x = four_axes(by.s, u, width);
+    let y = four_axes(by.t, v, height);
     Corners {
         p00: places(on, faces, x.first, y.first),
         p10: places(on, faces, x.second, y.first),

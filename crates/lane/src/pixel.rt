@@ -10,7 +10,7 @@ use texel::packing::unpack;
 
 // A texel's colour.
 #[tactic(auto, unfolding(rules::specs::Places::rgb_of))]
-fn rgb(texel: u32) -> Rgb
+pub fn rgb(texel: u32) -> Rgb
     ensures { result ≡ rgb_of texel }
 {
     Rgb {
@@ -22,7 +22,7 @@ fn rgb(texel: u32) -> Rgb
 
 // A texel's alpha.
 #[tactic(auto, unfolding(rules::specs::Places::opacity_of))]
-fn opacity(texel: u32) -> f32
+pub fn opacity(texel: u32) -> f32
     ensures { result ≡ opacity_of texel }
 {
     unpack(alpha(texel))

@@ -3,8 +3,7 @@
 use Rattle.std.specs.Prelude.{Ok}
 use mathlib.Core.Path.{◌≡◌, sym, ap, ◌∙◌, subst}
 use mathlib.Core.List.{List}
-use Prim.Native.Nat.{ℕ, ◌≤◌, min}
-use native.Mathlib.Nat.{min-eq_left, min-le_right}
+use Prim.Native.Nat.{ℕ, ◌≤◌}
 use lib.ListN.{length}
 use Rattle.rules.specs.Lanes.{Lanes}
 use Rattle.rules.specs.Lanes.{Wholes}
@@ -32,7 +31,6 @@ use Rattle.lane.specs.Reading.{Inside, AllWithin, squares_at, read_rgb, read_alp
 use Rattle.lane.proofs.Holding.{nearest-inside, squares-within}
 use Rattle.lane.proofs.Together.{nearest-colours, nearest-alphas, bilinear-colours, bilinear-alphas, cubemap-colours, trilinear-colours}
 use Rattle.lookups.specs.Reads.{sample4_four}
-use Rattle.choice.specs.Each.{each_of}
 
 -- what both sample4 calls refuse: a picture, and then what their places refuse
 pub sample4_told : {A : Type 0} (kind w h n : ℕ) (s : Sampler) (u v steps : Lanes) (a : A) → answer (sample4_refusal kind w h n s u v steps) refused (Ok a)
@@ -90,22 +88,13 @@ module _ (kind w h : ℕ) (l : List ℕ) (sampler : Sampler) (u v : Lanes) (m : 
 
 -- ---- by directions: s is where they meet the cube
 
--- four levels, each at most n
-abbrev pub lowered_to : ℕ → Wholes → Wholes
-lowered_to n m = each_of (λ k. min k n) m
-
--- a level that is lowered is not lowered again
-lowered-again : (w h : ℕ) (s : Spots) (m : Wholes) → cube_four w h s (lowered_to (top w h) m) ≡ cube_four w h s m
-unfolding cube_four
-lowered-again w h s m = let at : (n : ℕ) → min (min n (top w h)) (top w h) ≡ min n (top w h) = λ n. min-eq_left (min-le_right n (top w h)) in rw (at m.a, at m.b, at m.c, at m.d)
-
 pub cube-chained : {kind w h n : ℕ} {d : Directions} → Cubed kind w h n d → Chained cubemap w h n
 cube-chained {w = w} {h = h} {n = n} f = subst (λ (k : ℕ). Chained k w h n) f.cube f.chained
 
 module _ (kind w h : ℕ) (l : List ℕ) (d : Directions) {s : Spots} where
-  pub cubemap-read : (m : Wholes) → cubemap_refusal kind w h (length l) d ≡ 0 → s ≡ spots_at d → cubemap_answer kind w h l d m ≡ Ok (read_rgb l (cube_four w h s (lowered_to (top w h) m)))
+  pub cubemap-read : (m : Wholes) → cubemap_refusal kind w h (length l) d ≡ 0 → s ≡ spots_at d → cubemap_answer kind w h l d m ≡ Ok (read_rgb l (cube_four w h s m))
   unfolding cubemap_answer
-  cubemap-read m z e = rw (lowered-again w h s m, e) (answer-given _ _ _ z ∙ ap Ok (cubemap-colours l w h d m))
+  cubemap-read m z e = rw e (answer-given _ _ _ z ∙ ap Ok (cubemap-colours l w h d m))
 
   trilinear-read : (levels : Lanes) → trilinear_refusal kind w h (length l) d levels ≡ 0 → s ≡ spots_at d → let m = two_levels levels (top w h) in trilinear_answer kind w h l d levels ≡ Ok (lerp_colours (read_rgb l (cube_four w h s m.low)) (read_rgb l (cube_four w h s m.high)) m.part)
   unfolding trilinear_answer

@@ -3,7 +3,6 @@ ghost use Rattle.std.specs.Prelude.{◌≡◌};
 ghost use Rattle.rules.specs.Answers.{cubemap_answer};
 
 use crate::facing::facing;
-use choice::lanes::each;
 use lane::cubemap::Cube;
 use lane::pixel::rgb_four;
 use levels::layout::Layout;
@@ -26,8 +25,6 @@ pub fn sample_cubemap_rgb(
     let layout = Layout::new(picture, texels.len())?;
     picture.check_cubemap()?;
     let met = facing(directions)?;
-    let top = picture.top_level();
-    let lowered = each(levels, |level| level.min(top));
     let cube = Cube { layout: &layout };
-    Ok(rgb_four(texels, cube.places(met, lowered)))
+    Ok(rgb_four(texels, cube.places(met, levels)))
 }

@@ -15,13 +15,14 @@ pub struct Top {
 }
 
 // X, Y the first two steps times width and Z, W the last two times height: ((X*X + Z*Z) + (Y*Y + W*W)) * 0.5.
-// Sides and steps are the call's own arguments, taken as they come: a type of them would be made for three functions in a row.
+// Sides as numbers: a side of 0 texels has a footprint as well.
 #[tactic(auto, unfolding(rules::specs::Footprint::footprint_of))]
-fn footprint(width: Side, height: Side, steps: Lanes) -> f32
-    ensures { result ≡ footprint_of width.texels height.texels steps }
+pub fn footprint(width: u32, height: u32, steps: Lanes) -> f32
+    requires { (width ≤ 4096) × (height ≤ 4096) }
+    ensures { result ≡ footprint_of width height steps }
 {
-    let wide = width.texels as f32;
-    let high = height.texels as f32;
+    let wide = width as f32;
+    let high = height as f32;
     let x = steps.a * wide;
     let y = steps.b * wide;
     let z = steps.c * high;
@@ -38,10 +39,11 @@ fn greatest_four(footprint: f32, top: Top) -> u32
 }
 
 // The greatest m with 4^m at most max(footprint, 1), lowered to the top level.
+// Sides and steps are the call's own arguments, taken as they come: a type of them would be made for two functions in a row.
 #[tactic(auto, unfolding(rules::specs::Footprint::mip_level_of))]
 pub fn mip_level(width: Side, height: Side, top: Top, steps: Lanes) -> u32
     requires { top.level ≡ top_of width.texels height.texels }
     ensures { result ≡ mip_level_of width.texels height.texels steps }
 {
-    greatest_four(footprint(width, height, steps), top)
+    greatest_four(footprint(width.texels, height.texels, steps), top)
 }

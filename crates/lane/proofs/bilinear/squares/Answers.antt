@@ -6,10 +6,10 @@ use Rattle.lane.proofs.bilinear.squares.Goals.{After-four_axes-y}
 
 module _ (c : goal.After-four_axes-y) where
   across : Below c.args.on.plane.width c.four_axes-x.result.first × Below c.args.on.plane.width c.four_axes-x.result.second
-  across = rw (c.four_axes-x.ensures, c.width.ensures) (axes-below _ _ _ c.args.on.sized.some-w)
+  across = rw (c.four_axes-x.ensures, c.width-width.ensures) (axes-below _ _ _ c.args.on.sized.some-w)
 
   down : Below c.args.on.plane.height c.four_axes-y.result.first × Below c.args.on.plane.height c.four_axes-y.result.second
-  down = rw (c.four_axes-y.ensures, c.height.ensures) (axes-below _ _ _ c.args.on.sized.some-h)
+  down = rw (c.four_axes-y.ensures, c.height-height.ensures) (axes-below _ _ _ c.args.on.sized.some-h)
 
 pub places-requires : goal.places-requires
 places-requires c = let k = (goal.at.places-requires c).After-four_axes-y in (c.requires, (across k).0, (down k).0)

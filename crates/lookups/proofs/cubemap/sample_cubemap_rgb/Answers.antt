@@ -8,11 +8,9 @@ use Rattle.rules.proofs.RefusingLookups.{Cubed, cubemap-facts}
 use Rattle.rules.proofs.Answering.{told_none}
 use Rattle.lane.specs.Reading.{Inside, read_rgb}
 use Rattle.lane.proofs.Holding.{cubes-inside}
-use Rattle.std.proofs.iter.Serving.{serving}
-use Rattle.rules.specs.Sizes.{top}
-use Rattle.lookups.proofs.Answering.{lowered_to, cube-chained, cubemap-read}
+use Rattle.lookups.proofs.Answering.{cube-chained, cubemap-read}
 use Rattle.lookups.proofs.cubemap.sample_cubemap_rgb.Goals as goal
-use Rattle.lookups.proofs.cubemap.sample_cubemap_rgb.Goals.{After-each-lowered, In_ok-met}
+use Rattle.lookups.proofs.cubemap.sample_cubemap_rgb.Goals.{In_ok-met}
 
 -- past the refusals
 none : (c : goal.In_ok-met) → let a = c.args in cubemap_refusal a.kind a.width a.height (length a.texels.now) a.directions ≡ 0
@@ -27,12 +25,6 @@ none c =
 facts : (c : goal.In_ok-met) → let a = c.args in Cubed a.kind a.width a.height (length a.texels.now) a.directions
 facts c = cubemap-facts _ _ _ _ _ (none c)
 
--- each level is lowered to the top level
-lowered : (c : goal.After-each-lowered) → let a = c.args in c.each-lowered.result ≡ lowered_to (top a.width a.height) a.levels
-lowered c =
-    let is = c.in_ok-picture.ensures.is in
-    rw (← is.1, ← is.2, ← c.top_level-top.ensures.0) (grind serving)
-
 pub invariant_of-cube : goal.invariant_of-cube
 invariant_of-cube c = record { is = rw c.in_ok-layout.ensures.is (cube-facts _ (told_none _ (sym c.in_ok-check_cubemap.ensures))) }
 
@@ -46,5 +38,4 @@ returns c =
     let a = c.args in
     let is = c.in_ok-picture.ensures.is in
     let at = (goal.at.returns c).In_ok-met in
-    let low = lowered (goal.at.returns c).After-each-lowered in
-    record { answer = ap Ok (c.rgb_four.ensures ∙ ap (read_rgb _) (rw (c.in_ok-layout.ensures.is, is.1, is.2, low) at c.places.ensures)) ∙ sym (cubemap-read a.kind a.width a.height _ a.directions a.levels (none at) c.in_ok-met.ensures.met) }
+    record { answer = ap Ok (c.rgb_four.ensures ∙ ap (read_rgb _) (rw (c.in_ok-layout.ensures.is, is.1, is.2) at c.places.ensures)) ∙ sym (cubemap-read a.kind a.width a.height _ a.directions a.levels (none at) c.in_ok-met.ensures.met) }

@@ -4,7 +4,7 @@ use Rattle.texel.proofs.Coord.{side-float}
 use Rattle.places.proofs.level.footprint.Goals as goal
 
 pub int_to_float-wide : goal.int_to_float-wide
-int_to_float-wide c = side-float _ (let h = c.args.width.is.1 in omega arith)
+int_to_float-wide c = side-float _ (omega arith)
 
 pub int_to_float-high : goal.int_to_float-high
-int_to_float-high c = side-float _ (let h = c.args.height.is.1 in omega arith)
+int_to_float-high c = side-float _ (omega arith)
