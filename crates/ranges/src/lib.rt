@@ -1,6 +1,6 @@
 // Ranges beside a picture that is no cubemap: of every tile of its level 0 the smallest and the largest value of each channel.
-// It stands on what the unit passes on alone: `Picture` and `check_room` say which pictures are taken, `cut` takes a tile out.
-// The calls take codes, as those that `texture` passes on do.
+// It stands on the unit's own calls alone: `level_sizes` says which pictures are taken, `cut` takes a tile out.
+// So the calls take codes, as those do.
 #![tactic(auto)]
 
 pub mod build;

@@ -6,11 +6,10 @@ ghost use Rattle.rules.specs.Answers.{told, replace_leaves, replace_ranges_leave
 use crate::level0::Level0;
 use crate::refusals::check_replace;
 use rules::Refusal;
-use texture::Picture;
 
 // Puts a texel at (x, y) of level 0 and brings its tile's range up to date. The other levels are not made again.
 // The level is put together here once more: the one that the tests look at is lent, and its texel changes.
-#[tactic(auto, using(rules::proofs::Answering::answer_then, rules::proofs::Answering::leaves_then, rules::proofs::Answering::or_else_assoc), unfolding(rules::specs::Refusals::ranges_refusal, rules::specs::Refusals::replace_refusal, rules::specs::Answers::replace_leaves, rules::specs::Answers::replace_ranges_leaves))]
+#[tactic(auto, using(rules::proofs::Answering::leaves_as), unfolding(rules::specs::Answers::replace_leaves, rules::specs::Answers::replace_ranges_leaves))]
 pub fn replace_texel(
     kind: u32,
     width: u32,
@@ -25,11 +24,15 @@ pub fn replace_texel(
     ensures texels { texels.new ≡ replace_leaves kind width height texels.old ranges.old x y texel }
     ensures ranges { ranges.new ≡ replace_ranges_leaves kind width height texels.old ranges.old x y texel }
 {
-    let picture = Picture::new(kind, width, height)?;
-    check_replace(picture, texels, ranges, x, y)?;
+    check_replace(kind, width, height, texels.len(), ranges.len(), x, y)?;
     let at = (y as usize) * (width as usize) + (x as usize);
     texels[at] = texel;
-    let level = Level0 { picture, texels };
+    let level = Level0 {
+        kind,
+        width,
+        height,
+        texels,
+    };
     level.write_tile(x / 16, y / 16, ranges);
     Ok(())
 }

@@ -8,7 +8,7 @@ ghost use Rattle.ranges.specs.Scans.{RangeIs};
 use crate::level0::Level0;
 use crate::scan::{Range, scan};
 use rules::Pair;
-use texture::{Picture, cut};
+use texture::cut;
 
 // Tiles of 16 along a side, the last one smaller.
 pub fn tiles(side: u32) -> u32
@@ -19,10 +19,11 @@ pub fn tiles(side: u32) -> u32
 
 // How many bytes the ranges take.
 #[tactic(auto, unfolding(rules::specs::Ranges::ranges_size))]
-pub fn ranges_size(picture: Picture) -> usize
-    ensures { result ≡ ranges_size picture.width picture.height }
+pub fn ranges_size(width: u32, height: u32) -> usize
+    requires { (width ≤ 4096) × (height ≤ 4096) }
+    ensures { result ≡ ranges_size width height }
 {
-    8 * ((tiles(picture.height) as usize) * (tiles(picture.width) as usize))
+    8 * ((tiles(height) as usize) * (tiles(width) as usize))
 }
 
 // The texels of tile i along a side.
@@ -36,8 +37,8 @@ fn tile_side(side: u32, i: u32) -> u32
 impl Level0<'_> {
     // The range of the tile in column i and row j, which is cut out for it.
     fn tile_range(self, i: u32, j: u32) -> Range
-        requires { TileAt self.picture.width self.picture.height i j }
-        ensures { RangeIs (tile self.entry.picture.width self.entry.picture.height self.entry.texels.now i j) result }
+        requires { TileAt self.width self.height i j }
+        ensures { RangeIs (tile self.entry.width self.entry.height self.entry.texels.now i j) result }
     {
         let mut part = [0u32; 256];
         let corner = Pair {
@@ -45,14 +46,14 @@ impl Level0<'_> {
             y: 16 * j,
         };
         let sides = Pair {
-            x: tile_side(self.picture.width, i),
-            y: tile_side(self.picture.height, j),
+            x: tile_side(self.width, i),
+            y: tile_side(self.height, j),
         };
-        // Never refused: the tile lies in the picture. The unit's own cut, which takes a code: docs/DECISIONS.md 21.
+        // Never refused: the tile lies in the picture.
         let _ = cut(
-            self.picture.kind.code(),
-            self.picture.width,
-            self.picture.height,
+            self.kind,
+            self.width,
+            self.height,
             self.texels,
             0,
             corner,
@@ -66,12 +67,12 @@ impl Level0<'_> {
     // Works out the range of the tile in column i and row j and stores it in its place.
     // The room stands in two contracts: a value that held the lent ranges would have to say in each besides that its level stays.
     pub fn write_tile(self, i: u32, j: u32, ranges: &mut [u8])
-        requires room { ranges_size self.picture.width self.picture.height ≤ length ranges.old }
-        requires tile_at { TileAt self.picture.width self.picture.height i j }
-        ensures { ranges.new ≡ sets ranges.old (range_start self.entry.picture.width i j) (range_of (tile self.entry.picture.width self.entry.picture.height self.entry.texels.now i j)) }
+        requires room { ranges_size self.width self.height ≤ length ranges.old }
+        requires tile_at { TileAt self.width self.height i j }
+        ensures { ranges.new ≡ sets ranges.old (range_start self.entry.width i j) (range_of (tile self.entry.width self.entry.height self.entry.texels.now i j)) }
     {
         let range = self.tile_range(i, j);
-        let at = 8 * ((j as usize) * (tiles(self.picture.width) as usize) + (i as usize));
+        let at = 8 * ((j as usize) * (tiles(self.width) as usize) + (i as usize));
         ranges[at..at + 8].copy_from_slice(&range.bytes());
     }
 }

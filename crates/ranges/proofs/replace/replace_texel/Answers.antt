@@ -1,11 +1,10 @@
 -- `ranges::replace::replace_texel` meets its contract: past the test the place lies in level 0, and its tile in the ranges.
 use native.Mathlib.Omega.{arith}
-use mathlib.Core.Path.{◌≡◌, sym, ◌∙◌}
+use mathlib.Core.Path.{◌≡◌, sym}
 use lib.ListN.{length, length-set}
 use Prim.Native.Nat.{◌+◌, ◌*◌}
-use Rattle.rules.specs.Refusals.{ranges_refusal, replace_refusal}
-use Rattle.rules.proofs.Answering.{told_none, or_else_assoc}
-use Rattle.rules.proofs.Refusing.{or_else-taken}
+use Rattle.rules.specs.Refusals.{replace_refusal}
+use Rattle.rules.proofs.Answering.{told_none}
 use Rattle.rules.proofs.RefusingRanges.{Replacing, replace-facts, replace-goes}
 use Rattle.rules.proofs.Replacing.{texel-inside}
 use Rattle.rules.proofs.Building.{flat-of}
@@ -17,11 +16,7 @@ use Rattle.ranges.proofs.replace.replace_texel.Goals.{In_ok-check_replace}
 none : (c : goal.In_ok-check_replace)
     → let a = c.args in
     replace_refusal a.kind a.width a.height (length a.texels.now) (length a.ranges.now) a.x a.y ≡ 0
-unfolding replace_refusal ranges_refusal
-none c =
-    let given = c.in_ok-picture.ensures in
-    let is = given.is in
-    or_else_assoc _ _ _ ∙ or_else-taken _ _ (told_none _ (sym given.told)) (rw (is.0, is.1, is.2) at (told_none _ (sym c.in_ok-check_replace.ensures)))
+none c = told_none _ (sym c.in_ok-check_replace.ensures)
 
 known : (c : goal.In_ok-check_replace)
     → let a = c.args in
@@ -44,20 +39,18 @@ pub invariant_of-level : goal.invariant_of-level
 invariant_of-level c =
     let a = c.args in
     let k = known (goal.at.invariant_of-level c).In_ok-check_replace in
-    let is = c.in_ok-picture.ensures.is in
-    record { flat = rw (is.0, is.1, is.2, length-set a.texels.now (a.y * a.width + a.x) a.texel) (flat-of k.ranged) }
+    record { flat = rw (length-set a.texels.now (a.y * a.width + a.x) a.texel) (flat-of k.ranged) }
 
 pub write_tile-requires : goal.write_tile-requires
 write_tile-requires c =
     let k = known (goal.at.write_tile-requires c).In_ok-check_replace in
-    let is = c.in_ok-picture.ensures.is in
     record {
-      room = rw (is.1, is.2) k.ranged.room;
-      tile_at = rw (is.1, is.2) (tile-of _ _ _ _ k.inside.along k.inside.down);
+      room = k.ranged.room;
+      tile_at = tile-of _ _ _ _ k.inside.along k.inside.down;
     }
 
 pub returns-clause-texels : goal.returns-clause-texels
-returns-clause-texels c = (replace-goes _ _ _ _ _ _ _ _ (none (goal.at.returns-clause-texels c).In_ok-check_replace) (rw (c.in_ok-picture.ensures.is.1, c.in_ok-picture.ensures.is.2) at c.write_tile.ensures)).1.0
+returns-clause-texels c = (replace-goes _ _ _ _ _ _ _ _ (none (goal.at.returns-clause-texels c).In_ok-check_replace) c.write_tile.ensures).1.0
 
 pub returns-clause-ranges : goal.returns-clause-ranges
-returns-clause-ranges c = (replace-goes _ _ _ _ _ _ _ _ (none (goal.at.returns-clause-ranges c).In_ok-check_replace) (rw (c.in_ok-picture.ensures.is.1, c.in_ok-picture.ensures.is.2) at c.write_tile.ensures)).1.1
+returns-clause-ranges c = (replace-goes _ _ _ _ _ _ _ _ (none (goal.at.returns-clause-ranges c).In_ok-check_replace) c.write_tile.ensures).1.1

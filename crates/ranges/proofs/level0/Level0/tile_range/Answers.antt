@@ -21,5 +21,5 @@ slice_bounds-scan-end c = sym (length-take-le _ c.cut.new.target (fits (goal.at.
 pub returns : goal.returns
 returns c =
     subst (λ (t : List ℕ). RangeIs t c.scan.result)
-    (tile-cut _ _ _ c.args.self.flat c.requires refl c.tile_side.ensures c.tile_side-2.ensures (rw (c.code.ensures) at c.cut.ensures.leaves))
+    (tile-cut _ _ _ c.args.self.flat c.requires refl c.tile_side.ensures c.tile_side-2.ensures c.cut.ensures.leaves)
     c.scan.ensures
