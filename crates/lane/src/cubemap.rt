@@ -13,6 +13,7 @@ use places::place::Level;
 use rules::{Four, Spot, Wholes};
 
 // The place of the nearest texel on a face.
+#[tactic(auto, unfolding(rules::specs::Cubemap::cube_place))]
 pub fn cube_place(on: Level, s: Spot) -> usize
     requires { (on.plane.faces ≡ 6) × OnCube s }
     ensures { result ≡ cube_place on.plane s }

@@ -4,6 +4,3 @@ use Rattle.lane.proofs.cubemap.Cube.lowered_place.Goals as goal
 
 pub cube_place-requires : goal.cube_place-requires
 cube_place-requires c = (rw c.lowered.ensures (six-faces _ _ _), c.requires)
-
-pub returns : goal.returns
-returns c = rw (← c.lowered.ensures) c.cube_place.ensures
