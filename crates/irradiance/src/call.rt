@@ -6,7 +6,6 @@ ghost use Rattle.rules.specs.Answers.{irradiance_answer};
 use crate::cubemap::Cubemap;
 use crate::tones::Tones;
 use rules::{Basis, Refusal, Rgb, Sh4};
-use texture::Picture;
 
 const PI: f32 = 3.1415927;
 
@@ -37,11 +36,10 @@ fn folded(s: Sh4) -> Sh4
 }
 
 // The four irradiance coefficients of each colour of a cubemap's level 0.
-#[tactic(auto, using(rules::proofs::Answering::answer_then), unfolding(rules::specs::Refusals::irradiance_refusal, rules::specs::Answers::irradiance_answer, rules::specs::Irradiance::irradiance_of))]
+#[tactic(auto, using(rules::proofs::Answering::answer_as), unfolding(rules::specs::Answers::irradiance_answer, rules::specs::Irradiance::irradiance_of))]
 pub fn irradiance_sh4(kind: u32, width: u32, height: u32, texels: &[u32]) -> Result<Sh4, Refusal>
     ensures { result ≡ irradiance_answer kind width height texels.now }
 {
-    let picture = Picture::new(kind, width, height)?;
-    let cubemap = Cubemap::new(picture, texels)?;
+    let cubemap = Cubemap::new(kind, width, height, texels)?;
     Ok(folded(cubemap.sum_faces(&Tones::new())))
 }

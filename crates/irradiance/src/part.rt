@@ -7,7 +7,7 @@ ghost use Rattle.irradiance.specs.Holding.{Placed};
 ghost use Rattle.irradiance.specs.Turns.{with_part};
 
 use crate::cubemap::Cubemap;
-use crate::place::{Coordinate, centre, distance, place_basis};
+use crate::place::{Coordinate, centre, place_basis, squared_distance};
 use crate::root::guess;
 use crate::tones::Tones;
 use rules::{Basis, Rgb, Sh4};
@@ -15,7 +15,7 @@ use rules::{Basis, Rgb, Sh4};
 // Guesses at the roots of their distances, in the row at v.
 fn guesses(v: Coordinate, us: &[Coordinate], near: &mut [f64]) {
     for (near, u) in near.iter_mut().zip(us) {
-        *near = guess(distance(*u, v));
+        *near = guess(squared_distance(*u, v));
     }
 }
 

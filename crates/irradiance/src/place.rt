@@ -1,10 +1,19 @@
 // The place of a texel on a face, and the basis there.
 ghost use Rattle.std.specs.Prelude.{◌≡◌, ◌≤◌, ◌<◌};
 ghost use Rattle.rules.specs.Floats.{Between, minus1, one32};
-ghost use Rattle.rules.specs.Irradiance.{centre_of, distance_of, towards, place_basis};
+ghost use Rattle.rules.specs.Irradiance.{omega_of, centre_of, distance_of, towards, place_basis};
 
 use crate::root::{SquaredDistance, settled};
 use rules::{Basis, Vector};
+
+// texel_omega: (2.0 / width) * (2.0 / height).
+#[tactic(auto, unfolding(rules::specs::Irradiance::omega_of))]
+pub fn texel_omega(width: u32, height: u32) -> f32
+    requires { (width ≤ 4096) × (height ≤ 4096) }
+    ensures { result ≡ omega_of width height }
+{
+    (2.0 / (width as f32)) * (2.0 / (height as f32))
+}
 
 // Where a texel's centre lies along a side of its face.
 #[derive(Clone, Copy)]
@@ -25,12 +34,20 @@ pub fn centre(side: u32, x: u32) -> Coordinate
 }
 
 // 1 + u*u + v*v, left to right.
-#[tactic(auto, using(crate::proofs::Spans::distance_in), unfolding(rules::specs::Irradiance::distance_of))]
-pub fn distance(u: Coordinate, v: Coordinate) -> SquaredDistance
+#[tactic(auto, unfolding(rules::specs::Irradiance::distance_of))]
+pub fn distance(u: f32, v: f32) -> f32
+    ensures { result ≡ distance_of u v }
+{
+    1.0 + u * u + v * v
+}
+
+// The same of a place on a face.
+#[tactic(auto, using(crate::proofs::Spans::distance_in))]
+pub fn squared_distance(u: Coordinate, v: Coordinate) -> SquaredDistance
     ensures { result.d ≡ distance_of u.at v.at }
 {
     SquaredDistance {
-        d: 1.0 + u.at * u.at + v.at * v.at,
+        d: distance(u.at, v.at),
     }
 }
 
@@ -74,7 +91,7 @@ fn towards(face: u32, u: f32, v: f32) -> Vector<f32>
 pub fn place_basis(omega: f32, face: u32, u: Coordinate, v: Coordinate, guess: f64) -> Basis<f32>
     ensures { result ≡ place_basis omega face u.at v.at }
 {
-    let distance = distance(u, v);
+    let distance = squared_distance(u, v);
     let r = settled(distance, guess);
     let weight = omega / (distance.d * r);
     let n = towards(face, u.at, v.at);
