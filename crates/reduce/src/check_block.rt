@@ -20,10 +20,10 @@ fn narrow_below<R: Reduce>(rule: &R) -> usize
 }
 
 // Whether a level's rows are looked at in blocks: they are narrow, and each has two rows that it is made from.
-pub fn in_blocks<R: Reduce>(rule: &R, shape: Shape) -> bool
-    ensures { (result ≡ true) → (shape.width < 78) × (2 ≤ shape.height) }
+pub fn in_blocks<R: Reduce>(rule: &R, w: usize, h: usize) -> bool
+    ensures { (result ≡ true) → (w < 78) × (2 ≤ h) }
 {
-    shape.height > 1 && shape.width < narrow_below(rule)
+    h > 1 && w < narrow_below(rule)
 }
 
 // How many rows from row y on lie in a run: those of its face, or where no face has a row left over, all that follow.

@@ -17,7 +17,7 @@ fn check_level<R: Reduce>(rule: &R, shape: Shape, level: &[u32], c: &[u32]) -> O
     let below = shape.next();
     let w2 = below.width;
     let rows = below.faces * below.height;
-    let blocks = in_blocks(rule, shape);
+    let blocks = in_blocks(rule, shape.width, shape.height);
     let mut y = 0;
     // A while: it goes on by the rows that are looked at together.
     while y < rows {
