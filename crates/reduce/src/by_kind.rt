@@ -16,14 +16,16 @@ use kinds::rounded::Rounded;
 use kinds::srgb::Srgb;
 use rules::{Kind, Packing};
 
-// SRGB's tables stand in this function's frame, which no other kind enters.
+// SRGB's tables stand in this function's frame, which no other kind enters, and are made where a level is.
 // `room` here and in `fill` is of a `&mut` slice that is handed on: a value that held it would have to be taken apart at each step.
 #[inline(never)]
 fn fill_srgb(packing: Packing, shape: Shape, left: usize, s: &mut [u32])
     requires room { (1 ≤ left) × (start shape.faces shape.width shape.height left ≤ length s.old) }
     ensures { s.new ≡ filled (srgb_of packing) shape.faces left shape.width shape.height s.old }
 {
-    chain::fill(&Srgb::new(packing), shape, left, s);
+    if 1 < left {
+        chain::fill(&Srgb::new(packing), shape, left, s);
+    }
 }
 
 // The chain's levels by a kind and a packing mode.
