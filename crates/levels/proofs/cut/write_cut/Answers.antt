@@ -12,7 +12,7 @@ pub loop-y-preserved : goal.loop-y-preserved
 loop-y-preserved c =
     let rows = c.loop-y.invariant in
     let below = c.loop-y-test.true in
-    cut-more rows below _ (over-copied _ _ _ c.loop-y.target c.args.source.now _ (omega (arith, cut_reads rows below)) c.copy_from_slice.ensures.after)
+    cut-more rows below _ (over-copied _ _ _ c.loop-y.target c.args.source.now _ (omega (arith, cut_reads rows below)) c.put_row.ensures)
 
 pub shape_of-target : goal.shape_of-target
 shape_of-target c = c.loop-y.invariant.rows.run.as_long
