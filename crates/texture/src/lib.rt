@@ -1,5 +1,5 @@
-// The texture unit: every public call, with the records and refusals of the calls; and for our own crates `Picture`, `check_room` and
-// `face_of`. No public call has a `requires`; what each answers and what it leaves in the buffers that it was lent is said in
+// The texture unit: every public call, with the records and refusals of the calls; and for the C boundary `face_of` with its `Face`.
+// No public call has a `requires`; what each answers and what it leaves in the buffers that it was lent is said in
 // crates/rules/specs/Answers.antt.
 // The calls take codes and no `Kind`, `Packing` or `Mode`: document 01 has them take every code, and refuse an unknown one in its turn.
 #![tactic(auto)]
@@ -8,8 +8,6 @@ pub use levels::chain::generate_mipmaps;
 pub use levels::check::{check_chain, check_level};
 pub use levels::cross::cut_cross;
 pub use levels::cut::cut;
-pub use levels::picture::Picture;
-pub use levels::refusals::check_room;
 pub use levels::sizes::level_sizes;
 pub use levels::view::{Face, face_of, level_view, level_view_refusal};
 pub use lookups::{
