@@ -42,7 +42,7 @@ impl Reduce for Rounded {
         quarters(sums(q.map(|t| halves(t / 256)))) * 256 + quarters(sums(q.map(halves)))
     }
 
-    fn tells(&self) -> bool {
+    fn by_wholes(&self) -> bool {
         true
     }
 

@@ -16,9 +16,13 @@ pub trait Reduce {
     fn reduced(&self, q: Quad<u32>) -> u32
         ensures { result ≡ rule self.now q.p00 q.p10 q.p01 q.p11 };
 
-    // Whether `all_right` may answer `true`: whole numbers tell a right texel. A flag beside an answer: it is asked before any texel is looked
-    // at, to size the blocks.
-    fn tells(&self) -> bool
+    // Whether `all_right` may answer `true`. A rule that tells by more than whole numbers says so here.
+    fn tells(&self) -> bool {
+        self.by_wholes()
+    }
+
+    // Whether whole numbers tell a right texel. A flag beside an answer: it is asked before any texel is looked at, to size the blocks.
+    fn by_wholes(&self) -> bool
         ensures { (result ≡ true) → rule self.now ≡ linear_of Nearest }
     {
         false
@@ -44,3 +48,6 @@ pub fn row<R: Reduce>(rule: &R, rows: Rows, o: &mut [u32])
         *texel = rule.reduced(rows.pair(x));
     }
 }
+
+#[cfg(test)]
+mod tests;

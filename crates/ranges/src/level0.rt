@@ -12,7 +12,7 @@ pub struct Level0<'a> {
     pub width: u32,
     pub height: u32,
     pub texels: &'a [u32],
-    ghost flat: { Flat kind width height (length texels.now) },
+    pub ghost flat: { Flat kind width height (length texels.now) },
 }
 
 impl<'a> Level0<'a> {

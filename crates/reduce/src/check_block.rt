@@ -16,7 +16,7 @@ use kinds::rule::Reduce;
 fn narrow_below<R: Reduce>(rule: &R) -> usize
     ensures { result ≤ 78 }
 {
-    if rule.tells() { 8 } else { 78 }
+    if rule.by_wholes() { 8 } else { 78 }
 }
 
 // Whether a level's rows are looked at in blocks: they are narrow, and each has two rows that it is made from.
