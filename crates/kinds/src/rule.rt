@@ -16,7 +16,8 @@ pub trait Reduce {
     fn reduced(&self, q: Quad<u32>) -> u32
         ensures { result ≡ rule self.now q.p00 q.p10 q.p01 q.p11 };
 
-    // Whether `all_right` may answer `true`. A rule that tells by more than whole numbers says so here.
+    // Whether `all_right` may answer `true`, by whole numbers or in a rule's own way. For crates with rules of their own: what is here asks
+    // `by_wholes`.
     fn tells(&self) -> bool {
         self.by_wholes()
     }

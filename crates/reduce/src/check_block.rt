@@ -12,7 +12,7 @@ use crate::level::make_next;
 use crate::shape::{Above, Shape, halved};
 use kinds::rule::Reduce;
 
-// Narrower rows are looked at in blocks. Where the rule tells right rows by itself, only the narrowest.
+// Narrower rows are looked at in blocks. Where whole numbers tell right rows, only the narrowest.
 fn narrow_below<R: Reduce>(rule: &R) -> usize
     ensures { result ≤ 78 }
 {

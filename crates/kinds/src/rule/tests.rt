@@ -1,4 +1,4 @@
-// Which rules tell: the unit's own, asked through their trait, and one that tells by no whole numbers and has nothing to show for it.
+// Which rules tell: the unit's own, asked through their trait, and one of another crate's, which tells in its own way and proves nothing for it.
 use crate::channel::Quad;
 use crate::linear::Linear;
 use crate::rounded::Rounded;
@@ -20,7 +20,7 @@ impl Reduce for First {
     }
 }
 
-fn told<R: Reduce>(rule: &R) -> (bool, bool) {
+fn tells_how<R: Reduce>(rule: &R) -> (bool, bool) {
     (rule.tells(), rule.by_wholes())
 }
 
@@ -29,7 +29,7 @@ fn a_rule_tells_by_wholes_or_by_itself(rt: HostRuntime) {
     let truncating = Linear {
         packing: Packing::Truncating,
     };
-    assert!(rt; told(&Rounded) == (true, true));
-    assert!(rt; told(&truncating) == (false, false));
-    assert!(rt; told(&First) == (true, false));
+    assert!(rt; tells_how(&Rounded) == (true, true));
+    assert!(rt; tells_how(&truncating) == (false, false));
+    assert!(rt; tells_how(&First) == (true, false));
 }
